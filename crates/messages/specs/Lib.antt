@@ -1,7 +1,6 @@
 pub mod Faults
 pub mod Heads
 pub mod HeadsLaws
-pub mod Lending
 pub mod Limits
 pub mod Lines
 pub mod LinesLaws

@@ -1,21 +1,24 @@
 -- Laws of messages.
 use Rattle.std.specs.Prelude.{◌≡◌, ℕ, List, [], ◌∷◌, ◌++◌, length, Option, Some, Ok}
 use Rattle.std.proofs.Common.{sym, ap, subst, ◌∙◌, arith, refl, append_assoc, append-nil, inl, inr}
-use Rattle.messages.specs.Names.{append_cancel_left, AreMessages, as_known, Backward, Begun, Block, body_of, EachReadGave, Extent, extent_of, HandsOutInOrder, heads, InBody, InsideGoes, InTurn, IsHead, IsHeadPiece, IsMessage, IsRest, known_of, left_of, Limits, Message, MessagesWent, method_kind, NextPiece, Onward, ReaderState, request_framing, request_unique, Rest, room_of, StreamWent, StreamWent-joins, StreamWent-none, TakesFromRest, Unbuffered}
-use Rattle.chunked.specs.BodyLaws.{IsBodyOfChunks-same, front_same}
+use Rattle.messages.specs.Names.{append_cancel_left, AreMessages, as_known, Begun, Block, body_rules, BodyCoding, BodyWent, chunked, chunked_lawful, coding_of, EachReadGave, Enters, extent_of, FinishesBody, handed_of, heads, InBody, InsideGoes, InTurn, IsBody, IsBodyReader, IsHead, IsHeadPiece, IsMessage, known_of, left_of, Limits, Message, MessagesWent, method_kind, NextPiece, Reader, ReaderState, ReadsAlong-stream, request_framing, request_unique, room_of, sized_lawful, std_read_rules, StreamWent, StreamWent-joins, TookWholeBody, Unbuffered, unbuffered}
+use Rattle.body_reader.specs.BodyReaderLaws.{BodyWent-joins, BodyWent-none}
+use Rattle.body_reader.specs.Coding.{IsLawful}
+use Rattle.body_reader.specs.EitherLaws.{either_lawful}
+use Rattle.body_reader.specs.Sized.{sized}
+use Rattle.body_reader.specs.declared.either.Either.TheVariants as coding
 use Rattle.codec.specs.PiecesWentLaws.{PiecesWent-stream}
-use Rattle.messages.specs.declared.head.Extent.TheVariants.{Sized, Chunked}
 use Rattle.messages.specs.declared.head.Heads as head
 use Rattle.messages.specs.HeadsLaws.{heads_lawful}
 
--- a body ends in one place
-one_body : (limits : Limits) (e : Extent) (a b p q xs ys : List ℕ) → IsRest (body_of limits e) a p → IsRest (body_of limits e) b q
-    → a ++ xs ≡ b ++ ys
-    → (a ≡ b) × (p ≡ q) × (xs ≡ ys)
-one_body limits (Sized n) a b p q xs ys is is' same =
-    let parts = front_same a b xs ys (is.0 ∙ sym is'.0) same in
-    (parts.0, is.1 ∙ parts.0 ∙ sym is'.1, parts.1)
-one_body limits Chunked a b p q xs ys is is' same = IsBodyOfChunks-same _ _ a b p q xs ys is is' same
+-- no body begins another
+pub body_lawful : (c : BodyCoding) → IsLawful (body_rules c)
+body_lawful = either_lawful (λ c. sized c.0) (λ c. chunked c.0) (λ c. sized_lawful c.0) (λ c. chunked_lawful c.0)
+
+-- a byte is looked at
+pub one_ahead : (c : BodyCoding) → (body_rules c).ahead ≡ 1
+one_ahead (coding.First c) = refl
+one_ahead (coding.Second c) = refl
 
 -- no message begins another
 pub one_message : (limits : Limits) (a b xs ys h k p q : List ℕ) → IsMessage limits a h p → IsMessage limits b k q
@@ -33,9 +36,13 @@ one_message limits a b xs ys h k p q m n same =
     let both = sym here.framed
     ∙ ap (λ h. extent_of (request_framing (method_kind h.method) h.minor (known_of h.fields))) says.0 ∙ is.known.framed in
     let extent : m.text.said.extent ≡ n.text.said.extent = cc in
-    let body = one_body limits m.text.said.extent m.wire n.wire p q xs ys m.body
-    (subst (λ e. IsRest (body_of limits e) n.wire q) (sym extent) n.body) behind in
-    (m.equal ∙ ap (λ l. l ++ m.wire) head ∙ ap (λ l. k ++ l) body.0 ∙ sym n.equal, head, body.1, body.2)
+    let body = (body_lawful (coding_of limits m.text.said.extent)).one m.wire n.wire p q xs ys m.body
+    (subst (λ e. IsBody (body_rules (coding_of limits e)) n.wire q) (sym extent) n.body) behind in (
+      m.equal ∙ ap (λ l. l ++ m.wire) head ∙ ap (λ l. k ++ l) body.0 ∙ sym n.equal,
+      head,
+      body.1,
+      append_cancel_left m.wire xs ys (behind ∙ ap (λ l. l ++ ys) (sym body.0)),
+    )
 
 -- a text is cut into a number of messages in one way
 pub one_cut : (limits : Limits) (ms ns : List Message) (a b xs ys : List ℕ) → length ms ≡ length ns → AreMessages limits ms a
@@ -67,28 +74,9 @@ pub same_room : (b c : Block) → b.capacity ≡ c.capacity → b.limit ≡ c.li
 same_room b c capacity limit =
     ap (λ n. record { capacity = n; limit = b.limit }) capacity ∙ ap (λ n. record { capacity = c.capacity; limit = n }) limit
 
--- of a stream that wasn't asked, what was handed out, and then what is left, was there
-pub handed_unasked : {S : Type 0} {s t : Unbuffered S} {bytes : List ℕ} → HandsOutInOrder s bytes t → t.log ≡ s.log
-    → bytes ++ t.left ≡ s.left
-handed_unasked {s = s} order same =
-    let none : order.got ≡ [] = append_cancel_left s.log.reads.given order.got []
-    (sym order.given ∙ ap (λ l. l.reads.given) same ∙ sym (append-nil s.log.reads.given)) in
-    order.equal ∙ ap (λ l. s.left ++ l) none ∙ append-nil s.left
-
 -- reads that each gave some, and then more such
 pub EachReadGave-joins : {S : Type 0} (s m t : Unbuffered S) → EachReadGave s m → EachReadGave m t → EachReadGave s t
 EachReadGave-joins s m t before more = (more.0 ∙ before.0, more.1 ∙ before.1)
-
--- what goes on behind what was taken
-pub Onward-joins : (r q u : Rest) (a b h k : List ℕ) → Onward r a h q → Onward q b k u → Onward r (a ++ b) (h ++ k) u
-Onward-joins r q u a b h k first second later payload is =
-    simp append_assoc (first (b ++ later) (k ++ payload) (second later payload is))
-
-Backward-joins : (r q u : Rest) (a b h k : List ℕ) → Backward r a h q → Backward q b k u → Backward r (a ++ b) (h ++ k) u
-Backward-joins r q u a b h k first second later whole is =
-    let one = first (b ++ later) whole (simp append_assoc at is) in
-    let two = second later one.0 one.2 in
-    (two.0, one.1 ∙ ap (λ l. h ++ l) two.1 ∙ sym (append_assoc h k two.0), two.2)
 
 module _ {S : Type 0} (remaining : S → Option (List ℕ)) where
   -- a head that was handed out
@@ -106,29 +94,29 @@ module _ {S : Type 0} (remaining : S → Option (List ℕ)) where
       subst (λ d. IsHeadPiece d.0 bytes bytes) (sym next.went.decoder) (lent s t bytes next).1
 
   pub Begun-went : (s : ReaderState S head.Heads) (b : InBody S) → Begun remaining s b
-      → StreamWent remaining (left_of s) b.head b.stream
+      → StreamWent remaining (left_of s) b.head (unbuffered b.body.reader)
   Begun-went s b begun =
       rw (begun.stream, ← (lent s begun.behind b.head begun.next).0)
       (PiecesWent-stream remaining (heads s.decoder.0).most s begun.behind begun.next.bytes begun.next.went)
 
   -- and no read for it failed, or gave nothing
-  pub Begun-gave : (s : ReaderState S head.Heads) (b : InBody S) → Begun remaining s b → EachReadGave (left_of s) b.stream
+  pub Begun-gave : (s : ReaderState S head.Heads) (b : InBody S) → Begun remaining s b
+      → EachReadGave (left_of s) (unbuffered b.body.reader)
   Begun-gave s b begun = (
     ap (λ u. u.log.reads.faults) begun.stream ∙ begun.next.answers.0,
     ap (λ u. u.log.reads.zero_reads) begun.stream
         ∙ elim begun.next.answers.1 [ inl is ↦ is.2 | inr last ↦ absurd last.0 ],
   )
 
-  -- with what completes its body it is a message
+  -- with its body it is a message
   pub Begun-message : (s : ReaderState S head.Heads) (b : InBody S) (wire payload : List ℕ) → Begun remaining s b
-      → IsRest (body_of b.limits b.said.extent) wire payload
-      → (m : IsMessage b.limits (b.head ++ wire) b.head payload) × (m.wire ≡ wire) × (m.text.said ≡ b.said)
+      → IsBody (body_rules (coding_of s.decoder.0 b.said.extent)) wire payload
+      → (m : IsMessage s.decoder.0 (b.head ++ wire) b.head payload) × (m.wire ≡ wire) × (m.text.said ≡ b.said)
   Begun-message s b wire payload begun body = (
     record {
       wire = wire;
       equal = refl;
-      text = record (subst (λ l. IsHeadPiece l b.head b.head) (sym begun.limits) (lent s begun.behind b.head begun.next).1)
-          { said = b.said; is = begun.is };
+      text = record (lent s begun.behind b.head begun.next).1 { said = b.said; is = begun.is };
       body = body;
     },
     refl,
@@ -136,65 +124,62 @@ module _ {S : Type 0} (remaining : S → Option (List ℕ)) where
   )
 
   -- calls in a body go on
-  pub TakesFromRest-none : (s : Unbuffered S) (r : Rest) → TakesFromRest remaining s r [] s r
-  TakesFromRest-none s r = record {
-    wire = [];
-    went = StreamWent-none remaining s;
-    onward = λ later payload is. is;
-    backward = λ later whole is. (whole, refl, is);
-  }
-
-  pub TakesFromRest-joins : (s m t : Unbuffered S) (r q u : Rest) (h k : List ℕ) → TakesFromRest remaining s r h m q
-      → TakesFromRest remaining m q k t u → TakesFromRest remaining s r (h ++ k) t u
-  TakesFromRest-joins s m t r q u h k a b = record {
-    wire = a.wire ++ b.wire;
-    went = StreamWent-joins remaining s m t a.wire b.wire a.went b.went;
-    onward = Onward-joins r q u a.wire b.wire h k a.onward b.onward;
-    backward = Backward-joins r q u a.wire b.wire h k a.backward b.backward;
-  }
-
-  pub InsideGoes-none : (b : InBody S) → InsideGoes remaining b [] b
-  unfolding TakesFromRest-none
-  InsideGoes-none b = record {
-    takes = TakesFromRest-none b.stream b.rest;
-    taken = sym (append-nil b.taken);
+  pub InsideGoes-none : (b : InBody S) → IsBodyReader (body_rules b.body.coding) b.body → InsideGoes remaining b [] b
+  InsideGoes-none b whole = record {
+    went = BodyWent-none remaining std_read_rules (body_rules b.body.coding) b.body;
+    whole = whole;
     room = refl;
     moved = refl;
     limits = refl;
-    told = sym (append-nil b.calls.reads.given);
     head = refl;
     said = refl;
   }
 
   pub InsideGoes-joins : (s m t : InBody S) (h k : List ℕ) → InsideGoes remaining s h m → InsideGoes remaining m k t
       → InsideGoes remaining s (h ++ k) t
-  unfolding TakesFromRest-joins
   InsideGoes-joins s m t h k a b = record {
-    takes = TakesFromRest-joins s.stream m.stream t.stream s.rest m.rest t.rest h k a.takes b.takes;
-    taken = b.taken ∙ ap (λ l. l ++ b.takes.wire) a.taken ∙ append_assoc s.taken a.takes.wire b.takes.wire;
+    went = BodyWent-joins remaining std_read_rules (body_rules s.body.coding) s.body m.body t.body h k a.went
+        (subst (λ c. BodyWent remaining std_read_rules (body_rules c) m.body k t.body) a.went.coding b.went);
+    whole = b.whole;
     room = b.room ∙ a.room;
     moved = b.moved ∙ a.moved;
-    told = b.told ∙ ap (λ l. l ++ k) a.told ∙ append_assoc s.calls.reads.given h k;
     limits = b.limits ∙ a.limits;
     head = b.head ∙ a.head;
     said = b.said ∙ a.said;
   }
 
+  -- those since a body began, up to its end, took just that
+  pub whole_body : {limits : Limits} {b : InBody S} {handed : List ℕ} {t : Reader S} → Enters limits b
+      → (went : BodyWent remaining std_read_rules (body_rules b.body.coding) b.body handed t)
+      → TookWholeBody (body_rules b.body.coding) t → IsBody (body_rules (coding_of limits b.said.extent)) went.wire handed
+  whole_body {limits} {b} {handed} {t} enters went whole =
+      let wire : t.taken ≡ went.wire = went.taken ∙ ap (λ x. x.body.taken ++ went.wire) enters.is in
+      let payload : handed_of t ≡ handed = went.handed ∙ ap (λ x. handed_of x.body ++ handed) enters.is in
+      subst (λ c. IsBody (body_rules c) went.wire handed) (ap (λ x. x.body.coding) enters.is)
+      (subst (λ l. IsBody (body_rules b.body.coding) l handed) wire
+      (subst (IsBody (body_rules b.body.coding) t.taken) payload whole))
+
   -- whatever was read of it, a message that is begun and ended went whole
-  pub MessagesWent-one : (s : ReaderState S head.Heads) (b m : InBody S) (handed wire payload : List ℕ) (t : Unbuffered S)
-      → Begun remaining s b → TakesFromRest remaining b.stream b.rest handed m.stream m.rest
-      → StreamWent remaining m.stream wire t
-      → IsRest m.rest wire payload → MessagesWent remaining s.decoder.0 (left_of s) ((b.head, handed ++ payload) ∷ []) t
-  MessagesWent-one s b m handed wire payload t begun takes went is = record {
-    bytes = b.head ++ (takes.wire ++ wire);
-    went = StreamWent-joins remaining (left_of s) b.stream t b.head (takes.wire ++ wire)
-        (Begun-went s b begun)
-        (StreamWent-joins remaining b.stream m.stream t takes.wire wire takes.went went);
-    are = InTurn-one (λ m first. IsMessage s.decoder.0 first m.0 m.1) (b.head, handed ++ payload) (b.head ++ (takes.wire ++ wire))
-        (subst (λ l. IsMessage l (b.head ++ (takes.wire ++ wire)) b.head (handed ++ payload)) begun.limits
-        (Begun-message s b (takes.wire ++ wire) (handed ++ payload) begun
-        (subst (λ r. IsRest r (takes.wire ++ wire) (handed ++ payload)) begun.rest (takes.onward wire payload is))).0);
-  }
+  pub MessagesWent-one : (s : ReaderState S head.Heads) (b m : InBody S) (handed : List ℕ) (t : ReaderState S head.Heads)
+      → Begun remaining s b → BodyWent remaining std_read_rules (body_rules b.body.coding) b.body handed m.body
+      → (ends : FinishesBody remaining m t)
+      → MessagesWent remaining s.decoder.0 (left_of s) ((b.head, handed ++ ends.drains.payload) ∷ []) (left_of t)
+  MessagesWent-one s b m handed t begun went ends =
+      let payload = handed ++ ends.drains.payload in
+      let all = BodyWent-joins remaining std_read_rules (body_rules b.body.coding) b.body m.body ends.end handed
+      ends.drains.payload went
+      (subst (λ c. BodyWent remaining std_read_rules (body_rules c) m.body ends.drains.payload ends.end) went.coding
+      ends.drains.went) in
+      let whole = subst (λ c. TookWholeBody (body_rules c) ends.end) went.coding ends.drains.answers.1 in
+      record {
+        bytes = b.head ++ all.wire;
+        are = InTurn-one (λ m first. IsMessage s.decoder.0 first m.0 m.1) (b.head, payload) (b.head ++ all.wire)
+            (Begun-message s b all.wire payload begun (whole_body begun.enters all whole)).0;
+        went = subst (StreamWent remaining (left_of s) (b.head ++ all.wire)) (sym ends.left)
+            (StreamWent-joins remaining (left_of s) (unbuffered b.body.reader) (unbuffered ends.end.reader) b.head all.wire
+            (Begun-went s b begun)
+            (ReadsAlong-stream remaining std_read_rules b.body.reader all.wire ends.end.reader all.along));
+      }
 
   pub MessagesWent-joins : (limits : Limits) (s m t : Unbuffered S) (ms ns : List Message) → MessagesWent remaining limits s ms m
       → MessagesWent remaining limits m ns t → MessagesWent remaining limits s (ms ++ ns) t

@@ -1,19 +1,17 @@
 -- The names that laws and proofs take from other files, in one place.
 pub use Rattle.body_reader.specs.Between.{handed_out, LeavesPlaces, LeavesRoom}
-pub use Rattle.body_reader.specs.BodyReader.{BodyWent, Breaks, ConsumesPayload, Drains, EndsEarly, FillsPayload, handed_of, InPieces, IsBodyReader, NoPayload, ReadsPayload, TakesManyPieces, TakesPiece, TookWholeBody}
-pub use Rattle.body_reader.specs.Coding.{AskedFor, IsBody, IsKnown, LeadsOpen}
-pub use Rattle.body_reader.specs.CodingLaws.{Agree-nothing, Leads-done, Leads-whole, none_wrong}
+pub use Rattle.body_reader.specs.BodyReader.{BodyWent, FillsPayload, handed_of, IsBodyReader, NoPayload, ReadsAsIo, ReadsPayload, TookWholeBody}
+pub use Rattle.body_reader.specs.Coding.{IsBody, IsDone}
+pub use Rattle.body_reader.specs.CodingLaws.{Leads-done, Leads-whole, none_wrong}
 pub use Rattle.body_reader.specs.SizedLaws.{sized_lawful}
 pub use Rattle.body_reader.specs.declared.either.Side.{Side}
-pub use Rattle.buffer_redux.specs.Asking.{AskedWhere}
 pub use Rattle.buffer_redux.specs.Block.{Block, Plain, with_limit}
 pub use Rattle.buffer_redux.specs.Policy.{std_read_rules}
-pub use Rattle.buffer_redux.specs.StreamLog.{after_read, StreamLog}
-pub use Rattle.buffer_redux.specs.Unbuffer.{HandsOutInOrder, StreamWent, Unbuffered, unbuffered}
+pub use Rattle.buffer_redux.specs.StreamLog.{after_read}
+pub use Rattle.buffer_redux.specs.Unbuffer.{StreamWent, Unbuffered, unbuffered}
 pub use Rattle.buffer_redux.specs.UnbufferLaws.{ReadsAlong-stream, StreamWent-front, StreamWent-joins, StreamWent-none}
-pub use Rattle.chunked.specs.Coding.{chunked, InChunk}
-pub use Rattle.chunked.specs.CodingLaws.{chunked_lawful, data_leads, follows}
-pub use Rattle.chunked.specs.declared.error.Malformed.{Malformed}
+pub use Rattle.chunked.specs.Coding.{chunked}
+pub use Rattle.chunked.specs.CodingLaws.{chunked_lawful}
 pub use Rattle.chunked.specs.declared.place.Place.{Place}
 pub use Rattle.codec.specs.Decoding.{bytes_at}
 pub use Rattle.codec.specs.Grammar.{Begins, IsLawful, IsOpenBelow}
@@ -31,9 +29,8 @@ pub use Rattle.httparse.specs.Grammar.{ReadsRequest, RequestHead}
 pub use Rattle.httparse.specs.Spans.{header_bytes, IsRequestAt, name_and_value}
 pub use Rattle.messages.specs.Faults.{ends_chunked, has_many_lines, head_fault, is_connect, is_doubtful, IsHeadFault, lines_fault, said_fault}
 pub use Rattle.messages.specs.Heads.{expects, extent_of, heads, is_met, IsHead, IsHeadPiece, IsKnownHead, IsNoHead, keeps}
-pub use Rattle.messages.specs.Lending.{ConsumesInside, FillsInside, IsPayload}
 pub use Rattle.messages.specs.Lines.{fault_on, fault_then, line_fault, lines, texts, too_long, turn}
-pub use Rattle.messages.specs.Messages.{AreMessages, AskedIn, AsksForMore, Backward, BecomesIo, BeginsRest, Begun, body_answer, body_error, body_of, body_rules, BodyCoding, Bytes, Chunks, EachReadGave, Fails, FinishFails, GoesWrong, InBody, InsideGoes, InTurn, IsMessage, IsRest, IsRoomy, left_in, Message, MessagesWent, NotesEach, Onward, Reader, ReadsAsIo, ReadsBody, Rest, rest_of, room_of, RunsShort, seen, stream_of, sure_of, TakesFromRest, TakesWholeRest, Unended}
+pub use Rattle.messages.specs.Messages.{AreMessages, Begun, body_answer, body_rules, BodyCoding, coding_of, EachReadGave, Enters, FinishesBody, InBody, InsideGoes, InTurn, IsMessage, IsRoomy, Message, MessagesWent, Reader, room_of, TellsWhy, WhyNone}
 pub use Rattle.messages.specs.Target.{begins_with_letter, is_web, IsBehindScheme, IsBracketed, IsPlainField, IsTarget}
 pub use Rattle.messages.specs.Versions.{as_known, behind_blank, first_line, has_other_version, with_one}
 pub use Rattle.messages.specs.declared.head.Extent.{Extent}

@@ -6,11 +6,10 @@ use Rattle.messages.specs.declared.head.Heads.{Heads}
 use Rattle.messages.specs.declared.laws.Stopped.{Stopped}
 use Rattle.messages.specs.declared.laws.Stopped.TheVariants.{Before, Inside}
 use Rattle.messages.specs.Heads.{heads}
-use Rattle.messages.specs.Messages.{Begun, FinishFails, InBody, InsideGoes, stop_answer}
+use Rattle.messages.specs.Messages.{Begun, FailsToFinish, InBody, stop_answer}
 
 -- the reader stands before the head of the next, of which nothing is gone, or in its body, which wasn't finished
 abbrev pub StopsIn : {S : Type 0} → (S → Option (List ℕ)) → ReaderState S Heads → Stopped S → Type 0
 StopsIn remaining s (Before next stop) = NextPiece remaining (heads s.decoder.0) s (stop_answer stop) next
 StopsIn {S} remaining s (Inside body e) =
-    (first : InBody S) × (handed : List ℕ) × Begun remaining s first × InsideGoes remaining first handed body
-    × FinishFails first.stream handed e body.stream body.rest
+    (first : InBody S) × Begun remaining s first × FailsToFinish remaining first e body

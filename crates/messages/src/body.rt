@@ -1,14 +1,16 @@
 //! The reader of requests, in a body.
-ghost use Rattle.std.specs.Prelude.{◌≡◌, ◌-◌, ◌^◌, ◌<◌, ◌≤◌, ◌↔◌, ℕ, List, [], ◌++◌, length, min, take, IfErr, IfOk, IsTrue, MatchResult, Ok, OnOk};
+ghost use Rattle.std.specs.Prelude.{◌≡◌, ◌-◌, ◌^◌, ◌<◌, ◌≤◌, ◌↔◌, ℕ, List, [], ◌++◌, length, min, take, IfOk, IsTrue, MatchResult};
 ghost use Rattle.std.specs.Borrow.{Lends, sem};
-ghost use Rattle.buffer_redux.specs.Asking.{AskedWhere};
+ghost use Rattle.buffer_redux.specs.Buffered.{with_inner};
+ghost use Rattle.buffer_redux.specs.Policy.{std_read_rules};
 ghost use Rattle.body_reader.specs.Between.{handed_out};
-ghost use Rattle.body_reader.specs.BodyReader.{NotedIfOk, NotedIfSome};
-ghost use Rattle.buffer_redux.specs.Unbuffer.{unbuffered};
-ghost use Rattle.codec.specs.PieceReader.{left_of, rest};
+ghost use Rattle.body_reader.specs.BodyReader.{HandsBuffered, IsBodyReader, ReadsPayload};
+ghost use Rattle.body_reader.specs.Coding.{IsBody};
+ghost use Rattle.body_reader.specs.declared.either.Side.TheVariants as side;
+ghost use Rattle.codec.specs.PieceReader.{rest};
 ghost use Rattle.messages.specs.contracts.body.Body.{the_row};
 ghost use Rattle.messages.specs.Heads.{IsHead};
-ghost use Rattle.messages.specs.Messages.{AskedIn, AsksForMore, Bytes, EachReadGave, Fails, FinishFails, HandsKnown, HandsMost, InsideGoes, IsRest, IsRoomy, NotesEach, RunsShort, TakesWholeRest, Unended, body_of, body_rules, entering, rest_of, room_of, with_stream};
+ghost use Rattle.messages.specs.Messages.{FailsToFinish, FinishesBody, InsideGoes, IsRoomy, TellsWhy, body_rules, coding_of, entering, room_of};
 
 mod lends;
 mod tells;
@@ -41,11 +43,11 @@ pub struct Body<R: Tell> {
 impl<R: Tell> Model for Body<R> {
     ghost use Rattle.std.specs.Prelude.{◌≡◌};
     ghost use Rattle.messages.specs.Heads.{IsHead};
-    ghost use Rattle.messages.specs.Messages.{InBody, IsRoomy, seen};
+    ghost use Rattle.messages.specs.Messages.{InBody, IsRoomy};
 
     ghost Value = { InBody R };
 
-    ghost view = { λ b. seen b.reader b.limits b.head.bytes b.said };
+    ghost view = { λ b. record { body = b.reader; limits = b.limits; head = b.head.bytes; said = b.said } };
 
     ghost invariant = { λ b. (b.head.capacity ≡ 16384) × IsHead b.limits b.head.bytes b.said × IsRoomy b.reader.reader.block };
 }
@@ -62,7 +64,8 @@ impl<R: Tell> Body<R> {
         requires room { head.capacity ≡ 16384 }
         requires is { IsHead limits head.bytes said }
         requires roomy { IsRoomy reader.block }
-        ensures { result ≡ entering reader limits head.bytes said }
+        ensures enters { result ≡ entering reader limits head.bytes said }
+        ensures whole { IsBodyReader (body_rules result.body.coding) result.body }
     {
         Body {
             alloc,
@@ -91,22 +94,23 @@ impl<R: Tell> Body<R> {
     /// How many bytes of the body were taken so far, as far as a `u64` counts: its payload, and in chunks what is none. Who reads
     /// chunks knows by that how much of them is none, which has no bound but those of a line and of the trailers.
     pub fn taken(&self) -> u64
-        ensures { result ≡ min (length self.now.taken) (2 ^ 64 - 1) }
+        ensures { result ≡ min (length self.now.body.taken) (2 ^ 64 - 1) }
     {
         self.reader.taken()
     }
 
     /// What is buffered of the stream: the rest of the body comes first.
     pub fn buffered(&self) -> &[u8]
-        ensures { result.now ≡ self.now.stream.left }
+        ensures { result.now ≡ self.now.body.reader.block.bytes }
     {
         self.reader.get_ref().buffer()
     }
 
     /// The stream. What is read through this is in no message.
     pub fn get_ref(&self) -> &R
-        ensures inner { result.now ≡ self.now.stream.inner }
-        ensures log { R.log result.now ≡ self.now.stream.log }
+        ensures inner { result.now ≡ self.now.body.reader.inner }
+        ensures log { R.log result.now ≡ self.now.body.reader.log }
+        ensures whole { IsBodyReader (body_rules self.now.body.coding) self.now.body }
     {
         self.reader.get_ref().get_ref()
     }
@@ -115,9 +119,11 @@ impl<R: Tell> Body<R> {
     /// message.
     pub fn get_mut(&mut self) -> &mut R
         ensures* writes_back { sem 𝓛 (Lends (the_row R.row R.Tell) R.row self.entry result
-            (with_stream R.log self.old)) }
-        ensures inner { result.now ≡ self.old.stream.inner }
-        ensures log { R.log result.now ≡ self.old.stream.log }
+            (λ stream. record self.old {
+              body = record self.old.body { reader = with_inner R.log self.old.body.reader stream };
+            })) }
+        ensures inner { result.now ≡ self.old.body.reader.inner }
+        ensures log { R.log result.now ≡ self.old.body.reader.log }
     {
         self.reader.get_mut()
     }
@@ -125,9 +131,7 @@ impl<R: Tell> Body<R> {
     /// The buffered reader where it stands, which may be within the body: that is torn then; and the room for a head, with this
     /// one in it. [`finish`](Body::finish) is the way to the next head.
     pub fn into_inner_torn(self) -> (BufReader<R>, Buffer)
-        ensures stream { unbuffered result.0 ≡ self.stream }
-        ensures room { room_of result.0.block ≡ self.room }
-        ensures moved { result.0.block.moved ≡ self.moved }
+        ensures reader { result.0 ≡ self.body.reader }
         ensures head { result.1.bytes ≡ self.head }
         ensures capacity { result.1.capacity ≡ 16384 }
         ensures kept { IsRoomy result.0.block }
@@ -144,8 +148,9 @@ impl<R: Tell> Body<R> {
 
     /// Whether the body ended.
     pub fn is_done(&self) -> bool
-        ensures sized { (n : ℕ) → self.now.rest ≡ Bytes n → (IsTrue result ↔ n ≡ 0) }
-        ensures ended { IsTrue result ↔ IsRest self.now.rest [] [] }
+        ensures sized { (n : ℕ) → self.now.body.place ≡ side.First n → (IsTrue result ↔ n ≡ 0) }
+        ensures ended { IsTrue result ↔ IsBody (body_rules self.now.body.coding) self.now.body.taken
+            self.now.body.calls.reads.given }
     {
         let _ = self.reader.get_ref();
         self.reader.is_done()
@@ -162,17 +167,14 @@ impl<R: TellRead> Body<R> {
     /// comes only where nothing is left of the buffer, or as much as surely is payload, or was known to be.
     pub fn read(&mut self, out: &mut [u8]) -> Result<usize, BodyError>
         ensures bound { IfOk result (λ n. n ≤ length out.new) }
+        ensures handed { IfOk result (λ n. self.new.body.calls.reads.given
+            ≡ self.old.body.calls.reads.given ++ take n out.new) }
         ensures goes { InsideGoes R.remaining self.old (handed_out out.new result) self.new }
-        ensures noted { NotedIfOk self.old.calls out.new result self.new.calls }
-        ensures ended { result ≡ Ok 0 → 0 < length out.new → IsRest self.new.rest [] [] }
-        ensures gave { OnOk result (EachReadGave self.old.stream self.new.stream) }
-        ensures fails { IfErr result (λ e. Fails self.old.stream e self.new.stream self.new.rest) }
-        ensures asked { AskedWhere (AskedIn self.old.rest (length out.new) self.new.stream.log.reads.offer) self.old.stream
-            self.new.stream }
-        ensures asks { AsksForMore self.old.stream self.old.rest out.new self.new.stream }
-        ensures all { IfOk result (λ n. 0 < n → HandsMost self.old.rest self.old.taken self.old.known out.new n
-            self.new.taken self.new.known self.new.stream.left) }
-        ensures none { length out.new ≡ 0 → (result ≡ Ok 0) × (self.new ≡ record self.old { calls = self.new.calls }) }
+        ensures asks { self.old.body.reader.block.bytes ≡ [] → 0 < length out.new
+            → ¬ (IsBody (body_rules self.old.body.coding) self.old.body.taken self.old.body.calls.reads.given)
+            → self.old.body.reader.log.reads.asks < self.new.body.reader.log.reads.asks }
+        ensures reads { TellsWhy self.new.body.place (λ told. ReadsPayload R.remaining std_read_rules
+            (body_rules self.old.body.coding) self.old.body out.new told self.new.body) result }
     {
         let _ = self.reader.get_ref();
         let answer = self.reader.read_payload(out);
@@ -184,12 +186,10 @@ impl<R: TellRead> Body<R> {
     /// payload is handed out, and else not.
     pub fn read_buffered(&mut self, out: &mut [u8]) -> usize
         ensures bound { result ≤ length out.new }
+        ensures unasked { self.new.body.reader.log ≡ self.old.body.reader.log }
         ensures goes { InsideGoes R.remaining self.old (take result out.new) self.new }
-        ensures noted { NotedIfSome self.old.calls out.new result self.new.calls }
-        ensures unasked { self.new.stream.log ≡ self.old.stream.log }
-        ensures all { RunsShort (length out.new) result self.new.rest self.new.stream.left }
-        ensures knows { HandsKnown self.old.rest self.old.taken self.old.known out.new result self.new.taken self.new.known
-            self.new.stream.left }
+        ensures reads { HandsBuffered R.remaining std_read_rules (body_rules self.old.body.coding) self.old.body out.new result
+            self.new.body }
     {
         let _ = self.reader.get_ref();
         self.reader.read_buffered(out)
@@ -199,17 +199,12 @@ impl<R: TellRead> Body<R> {
     /// it. An `Err` hands the reader back, in the body still. The buffer is kept: it takes no memory, and no byte is moved in it.
     pub fn finish(self) -> Result<Requests<R>, (Self, BodyError)>
         ensures in_order { IfOk result (λ next. (wire : List ℕ) × (got : List ℕ)
-            × (next.reader.log.reads.given ≡ self.stream.log.reads.given ++ got)
-            × (wire ++ rest next ≡ self.stream.left ++ got)) }
-        ensures ends { MatchResult result (λ next. TakesWholeRest R.remaining self.stream self.rest (left_of next))
-            (λ e. (handed : List ℕ) × InsideGoes R.remaining self handed e.0
-            × FinishFails self.stream handed e.1 e.0.stream e.0.rest) }
-        ensures room { IfOk result (λ next. room_of next.reader.block ≡ self.room) }
-        ensures moved { IfOk result (λ next. next.reader.block.moved ≡ self.moved) }
+            × (next.reader.log.reads.given ≡ self.body.reader.log.reads.given ++ got)
+            × (wire ++ rest next ≡ self.body.reader.block.bytes ++ got)) }
+        ensures room { IfOk result (λ next. room_of next.reader.block ≡ room_of self.body.reader.block) }
+        ensures moved { IfOk result (λ next. next.reader.block.moved ≡ self.body.reader.block.moved) }
         ensures limits { IfOk result (λ next. next.decoder ≡ record { 0 = self.limits }) }
-        ensures noted { IfErr result (λ e. NotesEach self.calls e.0.calls) }
-        ensures asked { MatchResult result (λ next. AskedWhere (Unended self.rest) self.stream (left_of next))
-            (λ e. AskedWhere (Unended self.rest) self.stream e.0.stream) }
+        ensures ends { MatchResult result (FinishesBody R.remaining self) (λ e. FailsToFinish R.remaining self e.1 e.0) }
     {
         let _ = self.reader.get_ref();
         let Body {
@@ -246,7 +241,7 @@ impl<R: TellRead> Body<R> {
 
 // The coding of the body that a head says.
 fn coding_of(extent: Extent, limits: Limits) -> BodyCoding
-    ensures rest { rest_of result (body_rules result).first ≡ body_of limits extent }
+    ensures coding { result ≡ coding_of limits extent }
     ensures ahead { (body_rules result).ahead ≡ 1 }
 {
     match extent {

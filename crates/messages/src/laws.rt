@@ -4,7 +4,7 @@ ghost use Rattle.std.specs.Prelude.{◌≡◌, ℕ, ◌<◌, List, ◌∷◌, []
 ghost use Rattle.buffer_redux.specs.Unbuffer.{Unbuffered, unbuffer_remaining};
 ghost use Rattle.codec.specs.PieceReader.{ReaderState, left_of, rest};
 ghost use Rattle.messages.specs.declared.head.Heads as head;
-ghost use Rattle.messages.specs.Messages.{AreMessages, Begun, EachReadGave, InBody, Message, MessagesWent, TakesFromRest, TakesWholeRest, room_of};
+ghost use Rattle.messages.specs.Messages.{AreMessages, Begun, EachReadGave, FinishesBody, InBody, InsideGoes, Message, MessagesWent, room_of};
 ghost use Rattle.messages.specs.declared.limits.Limits.{Limits};
 ghost use Rattle.messages.specs.Passing.{StopsIn};
 
@@ -27,9 +27,9 @@ pub fn one_cut()
 /// stands before the same head, or in the same body, of which what was taken is gone (`next`, `read` and `finish` say so).
 pub fn no_byte_between<R: TellRead>(requests: &Requests<R>)
     ensures one { (s : ReaderState R head.Heads) (b m : InBody R) (handed : List ℕ) → Begun R.remaining s b
-        → TakesFromRest R.remaining b.stream b.rest handed m.stream m.rest
-        → (ends : TakesWholeRest R.remaining m.stream m.rest (left_of requests.now))
-        → MessagesWent R.remaining s.decoder.0 (left_of s) ((b.head, handed ++ ends.payload) ∷ []) (left_of requests.now) }
+        → InsideGoes R.remaining b handed m → (ends : FinishesBody R.remaining m requests.now)
+        → MessagesWent R.remaining s.decoder.0 (left_of s) ((b.head, handed ++ ends.drains.payload) ∷ [])
+        (left_of requests.now) }
     ensures many { (limits : Limits) (s m : Unbuffered R) (messages more : List Message)
         → MessagesWent R.remaining limits s messages m → MessagesWent R.remaining limits m more (left_of requests.now)
         → MessagesWent R.remaining limits s (messages ++ more) (left_of requests.now) }

@@ -3,6 +3,7 @@ ghost use Rattle.std.specs.Prelude.{◌≡◌, ℕ, List, [], ◌++◌, ◌<◌,
 ghost use Rattle.std.specs.Borrow.{Lends, sem};
 ghost use Rattle.buffer_redux.specs.Block.{Plain};
 ghost use Rattle.buffer_redux.specs.Buffered.{with_inner};
+ghost use Rattle.buffer_redux.specs.Unbuffer.{unbuffered};
 ghost use Rattle.codec.specs.Decoding.{IsLent, bytes_at};
 ghost use Rattle.codec.specs.Grammar.{Begins};
 ghost use Rattle.codec.specs.NextPiece.{NextPiece, StaysLeft};
@@ -219,8 +220,8 @@ impl<R: TellRead> Requests<R> {
     /// Goes on into the next message. An `Err` says why there is none, and hands the reader back, before what there is.
     pub fn next(mut self) -> Result<Body<R>, (Self, Stop)>
         ensures in_order { IfOk result (λ body. (got : List ℕ)
-            × (body.stream.log.reads.given ≡ self.reader.log.reads.given ++ got)
-            × (body.head ++ body.stream.left ≡ rest self ++ got)) }
+            × (body.body.reader.log.reads.given ≡ self.reader.log.reads.given ++ got)
+            × (body.head ++ body.body.reader.block.bytes ≡ rest self ++ got)) }
         ensures told { self.ended ≡ false }
         ensures next { MatchResult result (Begun R.remaining self)
             (λ e. NextPiece R.remaining (heads self.decoder.0) self (stop_answer e.1) e.0) }
@@ -237,10 +238,10 @@ impl<R: TellRead> Requests<R> {
     /// stream for nothing, and moves no byte. An `Err` hands the reader back where it doesn't: `next` says then why, or asks for
     /// more.
     pub fn next_buffered(mut self) -> Result<Body<R>, Self>
-        ensures front { IfOk result (λ body. body.head ++ body.stream.left ≡ rest self) }
-        ensures unasked { IfOk result (λ body. body.stream.log ≡ self.reader.log) }
+        ensures front { IfOk result (λ body. body.head ++ body.body.reader.block.bytes ≡ rest self) }
+        ensures unasked { IfOk result (λ body. body.body.reader.log ≡ self.reader.log) }
         ensures begun { IfOk result (Begun R.remaining self) }
-        ensures still { IfOk result (λ body. body.moved ≡ self.reader.block.moved) }
+        ensures still { IfOk result (λ body. body.body.reader.block.moved ≡ self.reader.block.moved) }
         ensures stays { IfErr result (StaysLeft (heads self.decoder.0) self) }
         ensures none { IfErr result (λ next. ¬ (Begins (heads self.decoder.0) (rest next))) }
     {
@@ -255,8 +256,8 @@ impl<R: TellRead> Requests<R> {
         requires lends { IsLent (heads self.decoder.0) self.handed self.reader.block.bytes span }
         requires head { IsHeadPiece self.decoder.0 (bytes_at span self.reader.block.bytes)
             (bytes_at span self.reader.block.bytes) }
-        ensures stream { result.stream ≡ left_of self }
-        ensures still { result.moved ≡ self.reader.block.moved }
+        ensures stream { unbuffered result.body.reader ≡ left_of self }
+        ensures still { result.body.reader.block.moved ≡ self.reader.block.moved }
         ensures begun { (s : ReaderState R head.Heads) → NextPiece R.remaining (heads s.decoder.0) s
             (Ok (Some (bytes_at span self.reader.block.bytes))) self → Begun R.remaining s result }
     {

@@ -1,9 +1,9 @@
 -- Answers, one after another.
 use Rattle.std.proofs.Common.{IfSome, ◌≡◌, ℕ, Bool, true, false, List, [], ◌++◌, length, Option, None, Some, Result, Ok, Err, sym, subst, inl, inr, refl, arith}
-use Rattle.requests.proofs.Names.{All-nil, answered, AnswersEach, AnswersWhole, AwaitsBody, BadRequest, Begun, Begun-message, Begun-went, Both, Buffered, CallsFor, early_refusal, Ending, ending_of, EndsOnce, EndsUntaken, Error, faults_of, HandsOutInOrder-none, heads, Heads, InBody, Inside, InsideGoes, Io, is_known, is_large, IsAwaited, IsHead, IsLastTurn, IsMessage, IsOpen, IsPartTaken, IsRest, IsToBeRefused, LargeBody, left_of, MayFollow, Message, OnlyInterrupts, Over, ParsedHead, Place, ReaderState, refusal, Refusal, RunEndsBy, RunsToLast, sending_of, sent_till, StdPolicy, stream_at, StreamLog, StreamWent-joins, StreamWent-none, TakeFails, TakesWhole, Truncated, Unbuffered, Unread, Untaken, usual, WritesParts, WritesPromptly, Wrong}
+use Rattle.requests.proofs.Names.{All-nil, answered, AnswersEach, AnswersWhole, AwaitsBody, BadRequest, Begun, Begun-message, Begun-went, body_rules, Both, Buffered, CallsFor, coding_of, early_refusal, Ending, ending_of, EndsOnce, EndsUntaken, Enters, Error, faults_of, handed_of, HandsOutInOrder-none, Heads, heads, InBody, Inside, InsideGoes, Io, is_known, is_large, IsAwaited, IsBody, IsLastTurn, IsMessage, IsOpen, IsPartTaken, IsToBeRefused, LargeBody, left_of, MayFollow, Message, OnlyInterrupts, Over, ParsedHead, Place, ReaderState, refusal, Refusal, RunEndsBy, RunsToLast, sending_of, sent_till, StdPolicy, stream_at, stream_in, StreamLog, StreamWent-joins, StreamWent-none, TakeFails, TakesWhole, Truncated, Unbuffered, Unread, Untaken, usual, WritesParts, WritesPromptly, Wrong}
 use Rattle.requests.specs.declared.Ending.TheVariants as stop
 use Rattle.requests.specs.declared.taking.Untaken.TheVariants.{Body, Large, Unsent, Many}
-use Rattle.requests.proofs.Reading.{IsMany-still, IsToBeRefused-still, FailsInRead-still, begun_once, begun_steady, is_part, joined, part_went}
+use Rattle.requests.proofs.Reading.{IsMany-still, IsToBeRefused-still, FailsInRead-still, begun_head, begun_once, begun_steady, begun_usual, is_part, joined, part_went}
 use Rattle.requests.proofs.Sending.{WritesPromptly-none, WritesPromptly-on}
 
 module _ {W : Type 0} {tells : W → StreamLog} {trace : W → W → Type 0} where
@@ -24,7 +24,7 @@ module _ {W : Type 0} {tells : W → StreamLog} {trace : W → W → Type 0} whe
         (place : Place R) (part : IsPartTaken place taken handed)
         (once : EndsOnce s.log.reads (stream_at place).log.reads) where
       -- a run of one turn, in which one message went, or none
-      pub RunsToLast-one : (last : List Message) (refuses : Option Refusal) → IfSome refuses (IsToBeRefused s place handed)
+      pub RunsToLast-one : (last : List Message) (refuses : Option Refusal) → IfSome refuses (IsToBeRefused s place)
           → (ending : Ending)
           → IsLastTurn remaining tells trace last taken place refuses (s, w) (sending_of ending) (stream_at place, w')
           → RunEndsBy remaining tells trace s last taken handed refuses place w' ending
@@ -44,7 +44,7 @@ module _ {W : Type 0} {tells : W → StreamLog} {trace : W → W → Type 0} whe
       -- what comes is refused, before a message went
       pub RunsToLast-refused : (why : Refusal) (sending : Result (Unit {0}) Error)
           → IsLastTurn remaining tells trace [] taken place (Some why) (s, w) sending (stream_at place, w')
-          → IsToBeRefused s place handed why → OnlyInterrupts (faults_of s) (faults_of (stream_at place))
+          → IsToBeRefused s place why → OnlyInterrupts (faults_of s) (faults_of (stream_at place))
           → RunsToLast remaining tells trace s w place (ending_of sending) w'
       RunsToLast-refused why (Ok x) turn wrong met =
           RunsToLast-one [] (Some why) wrong Over turn (met, inr (All-nil (MayFollow true), inl refl))
@@ -55,47 +55,49 @@ module _ {W : Type 0} {tells : W → StreamLog} {trace : W → W → Type 0} whe
         (open' : early_refusal (is_known b.head) b.said ≡ None) where
       -- one did in part, and this is why
       module _ {s : ReaderState R Heads} {t : InBody R} {handed : List ℕ} (begun : Begun remaining s b)
-          (limits : b.limits ≡ usual)
-          (goes : InsideGoes remaining b handed t) {w u : Buffered W StdPolicy}
-          (call : CallsFor remaining tells trace b.head b.said (left_of s, w) (Ok tt) (b.stream, u)) where
+          (enters : Enters usual b) (goes : InsideGoes remaining b handed t) {w u : Buffered W StdPolicy}
+          (call : CallsFor remaining tells trace b.head b.said (left_of s, w) (Ok tt) (stream_in b, u)) where
         still : (P : List ℕ → ParsedHead → Type 0) → P b.head b.said → P t.head t.said
         still P is = subst (λ x. P t.head x) (sym goes.said) (subst (λ h. P h b.said) (sym goes.head) is)
 
-        called_here : CallsFor remaining tells trace t.head t.said (left_of s, w) (Ok tt) (b.stream, u)
-        called_here = still (λ h x. CallsFor remaining tells trace h x (left_of s, w) (Ok tt) (b.stream, u)) call
+        called_here : CallsFor remaining tells trace t.head t.said (left_of s, w) (Ok tt) (stream_in b, u)
+        called_here = still (λ h x. CallsFor remaining tells trace h x (left_of s, w) (Ok tt) (stream_in b, u)) call
 
         awaits_here : (sending : Result (Unit {0}) Error) (v : Buffered W StdPolicy)
-            → WritesPromptly tells trace (IsAwaited b.said.extent) (b.stream, u) sending (t.stream, v)
-            → WritesPromptly tells trace (AwaitsBody t.head t.said) (b.stream, u) sending (t.stream, v)
+            → WritesPromptly tells trace (IsAwaited b.said.extent) (stream_in b, u) sending (stream_in t, v)
+            → WritesPromptly tells trace (AwaitsBody t.head t.said) (stream_in b, u) sending (stream_in t, v)
         awaits_here sending v on =
-            still (λ h x. WritesPromptly tells trace (AwaitsBody h x) (b.stream, u) sending (t.stream, v))
+            still (λ h x. WritesPromptly tells trace (AwaitsBody h x) (stream_in b, u) sending (stream_in t, v))
             (awaits none joins b.head b.said sending open' on)
 
         refused_torn : {v w' : Buffered W StdPolicy} (why : Refusal) (answer : Result (Unit {0}) Error)
-            → EndsOnce b.stream.log.reads t.stream.log.reads → OnlyInterrupts (faults_of b.stream) (faults_of t.stream)
-            → IsToBeRefused b.stream (Inside t) handed why
-            → WritesPromptly tells trace (IsAwaited b.said.extent) (b.stream, u) (Ok tt) (t.stream, v)
+            → EndsOnce (stream_in b).log.reads (stream_in t).log.reads
+            → OnlyInterrupts (faults_of (stream_in b)) (faults_of (stream_in t)) → IsToBeRefused (stream_in b) (Inside t) why
+            → WritesPromptly tells trace (IsAwaited b.said.extent) (stream_in b, u) (Ok tt) (stream_in t, v)
             → WritesParts tells trace v (refusal why) answer w'
             → RunsToLast remaining tells trace (left_of s) w (Inside t) (ending_of answer) w'
         refused_torn {v} {w'} why answer once reads torn on parts =
-            RunsToLast-refused none (b.head ++ goes.takes.wire) handed (Inside t) (is_part begun limits goes)
-            (begun_once begun t.stream once) why answer
-            (part_went begun goes, inr ((b.stream, u), called_here, (v, awaits_here (Ok tt) v on, parts)))
-            (IsToBeRefused-still (begun_steady begun) (Inside t) handed why torn)
-            (joined (begun_steady begun) t.stream reads)
+            RunsToLast-refused none (b.head ++ goes.went.wire) (handed_of t.body) (Inside t)
+            (is_part begun enters goes)
+            (begun_once begun (stream_in t) once) why answer
+            (part_went begun goes, inr ((stream_in b, u), called_here, (v, awaits_here (Ok tt) v on, parts)))
+            (IsToBeRefused-still (begun_steady begun) (Inside t) why torn)
+            (joined (begun_steady begun) (stream_in t) reads)
 
         -- nothing is refused, and the run ends so
-        stops : {v : Buffered W StdPolicy} (ending : Ending) → EndsOnce b.stream.log.reads t.stream.log.reads
-            → WritesPromptly tells trace (IsAwaited b.said.extent) (b.stream, u) (sending_of ending) (t.stream, v)
-            → RunEndsBy remaining tells trace (left_of s) [] (b.head ++ goes.takes.wire) handed None (Inside t) v ending
+        stops : {v : Buffered W StdPolicy} (ending : Ending) → EndsOnce (stream_in b).log.reads (stream_in t).log.reads
+            → WritesPromptly tells trace (IsAwaited b.said.extent) (stream_in b, u) (sending_of ending) (stream_in t, v)
+            → RunEndsBy remaining tells trace (left_of s) [] (b.head ++ goes.went.wire) (handed_of t.body) None (Inside t) v
+            ending
             → RunsToLast remaining tells trace (left_of s) w (Inside t) ending v
         stops {v} ending once on ends =
-            RunsToLast-one none (b.head ++ goes.takes.wire) handed (Inside t) (is_part begun limits goes)
-            (begun_once begun t.stream once) [] None tt ending
-            (part_went begun goes, inr ((b.stream, u), called_here, awaits_here (sending_of ending) v on)) ends
+            RunsToLast-one none (b.head ++ goes.went.wire) (handed_of t.body) (Inside t)
+            (is_part begun enters goes)
+            (begun_once begun (stream_in t) once) [] None tt ending
+            (part_went begun goes, inr ((stream_in b, u), called_here, awaits_here (sending_of ending) v on)) ends
 
-        pub torn_answered : {v w' : Buffered W StdPolicy} (why : Untaken) (ending : Ending) → TakeFails b.stream handed why t v
-            → WritesPromptly tells trace (IsAwaited b.said.extent) (b.stream, u) (sent_till why) (t.stream, v)
+        pub torn_answered : {v w' : Buffered W StdPolicy} (why : Untaken) (ending : Ending) → TakeFails (stream_in b) why t v
+            → WritesPromptly tells trace (IsAwaited b.said.extent) (stream_in b, u) (sent_till why) (stream_in t, v)
             → EndsUntaken tells trace v why ending w'
             → RunsToLast remaining tells trace (left_of s) w (Inside t) ending w'
         torn_answered (Body (Wrong why)) ending (once, reads, torn) on (answer, is, parts) =
@@ -105,47 +107,47 @@ module _ {W : Type 0} {tells : W → StreamLog} {trace : W → W → Type 0} whe
         torn_answered (Body (Io e)) ending (once, fails, all, had) on (is, same) =
             rw (is, same)
             (stops (Unread e) once on
-            (FailsInRead-still (begun_steady begun) e t.stream fails, All-nil (MayFollow true), refl, all, had))
+            (FailsInRead-still (begun_steady begun) e (stream_in t) fails, All-nil (MayFollow true), refl, all, had))
         torn_answered Large ending (reads, large) on (answer, is, parts) =
             rw is
             (refused_torn LargeBody answer (omega (arith, reads.ends)) reads.faults (inr (inl (refl, large))) on parts)
         torn_answered (Unsent e) ending reads on (is, same) =
             rw (is, same)
             (stops (stop.Unsent e) (omega (arith, reads.ends)) on
-            (joined (begun_steady begun) t.stream reads.faults, inl (All-nil (MayFollow true))))
+            (joined (begun_steady begun) (stream_in t) reads.faults, inl (All-nil (MayFollow true))))
         torn_answered Many ending (reads, many) on (is, same) = rw (is, same) (stops stop.Many (omega (arith, reads.ends)) on (
-          joined (begun_steady begun) t.stream reads.faults,
+          joined (begun_steady begun) (stream_in t) reads.faults,
           All-nil (MayFollow true),
           refl,
-          IsMany-still (begun_steady begun) 0 (length handed) t.stream reads.faults many,
+          IsMany-still (begun_steady begun) 0 (length (handed_of t.body)) (stream_in t) reads.faults many,
         ))
 
       -- one did, whole, and its payload was counted
       pub one_answered : {s : ReaderState R Heads} {t : Unbuffered R} {len : ℕ} {known : Bool} {said : ParsedHead}
-          {w u v w' : Buffered W StdPolicy} {sending : Result (Unit {0}) Error} → Begun remaining s b → b.limits ≡ usual
+          {w u v w' : Buffered W StdPolicy} {sending : Result (Unit {0}) Error} → Begun remaining s b → Enters usual b
           → (whole : TakesWhole remaining b t len) → said ≡ b.said → known ≡ is_known b.head
-          → CallsFor remaining tells trace b.head b.said (left_of s, w) (Ok tt) (b.stream, u)
-          → WritesPromptly tells trace (IsAwaited b.said.extent) (b.stream, u) (Ok tt) (t, v)
+          → CallsFor remaining tells trace b.head b.said (left_of s, w) (Ok tt) (stream_in b, u)
+          → WritesPromptly tells trace (IsAwaited b.said.extent) (stream_in b, u) (Ok tt) (t, v)
           → WritesParts tells trace v (answered known said len) sending w'
           → AnswersWhole remaining tells trace (b.head, whole.1) (left_of s, w) sending (t, w')
-      one_answered {s} {t} {len} {known} {said} {w} {u} {v} {w'} {sending} begun limits (wire, payload, went, is, many, small)
+      one_answered {s} {t} {len} {known} {said} {w} {u} {v} {w'} {sending} begun enters (wire, payload, went, is, many, small)
           same method call on parts =
           let bytes = b.head ++ wire in
           let message = subst (λ l. (m : IsMessage l (b.head ++ wire) b.head payload) × (m.wire ≡ wire) × (m.text.said ≡ b.said))
-          limits
-          (Begun-message remaining s b wire payload begun (subst (λ r. IsRest r wire payload) begun.rest is)) in
-          let head = subst (λ l. IsHead l b.head b.said) limits begun.is in
+          (begun_usual begun enters) (Begun-message remaining s b wire payload begun
+          (subst (λ l. IsBody (body_rules (coding_of l b.said.extent)) wire payload) (sym (begun_usual begun enters)) is)) in
+          let head = begun_head begun enters in
           let taken : is_large message.0.text.said.extent (length message.0.wire) (length payload) ≡ false =
-          rw (message.2, message.1) (rw begun.taken at small) in
+          rw (message.2, message.1) small in
           let answer : answered known said len ≡ answered (is_known b.head) b.said (length payload) = rw (method, same, many) in
           record {
             bytes = bytes;
             is = (message.0, taken);
-            went = StreamWent-joins remaining (left_of s) b.stream t b.head wire (Begun-went remaining s b begun) went;
+            went = StreamWent-joins remaining (left_of s) (stream_in b) t b.head wire (Begun-went remaining s b begun) went;
             said = b.said;
             head = head;
             open' = open';
-            begun = (b.stream, u);
+            begun = (stream_in b, u);
             calls = call;
             before = v;
             reads = awaits none joins b.head b.said (Ok tt) open' on;

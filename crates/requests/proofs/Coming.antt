@@ -1,10 +1,9 @@
 -- What was sent before a further head was asked for.
-use Rattle.std.proofs.Common.{◌≡◌, ◌∙◌, ◌<◌, ◌+◌, ℕ, Bool, true, false, MatchBool, List, [], ◌∷◌, ◌++◌, length, Option, None, Some, Result, Ok, Err, inl, inr, ap, refl, sym, subst, arith, length-append}
-use Rattle.requests.proofs.Names.{AskedIn, AskedOver, AskedWhere, AsksForMore, AsksNone-settled, BadHead, BeginsRest, Buffered, empty_reads, Error, HandsOutInOrder, Heads, heads, heads_lawful, InBody, InsideGoes, IsOpen, IsRest, IsSettled, left_of, NextAnswer, NextPiece, nil_from_length, NoEnd, PiecesWent-stream, PiecesWent-unasked, ReaderState, rest, RunsShort, SendsUnless, StdPolicy, StreamLog, Unbuffered, usual, WritesOnlyHeld, WritesPromptly}
-use Rattle.buffer_redux.specs.AskingLaws.{AskedWhere-of}
+use Rattle.std.proofs.Common.{◌≡◌, ◌⊎◌, ◌∙◌, ◌<◌, ◌+◌, ℕ, Bool, true, false, MatchBool, List, [], ◌∷◌, ◌++◌, length, Option, None, Some, Result, Ok, Err, inl, inr, ap, refl, sym, subst, arith, length-append}
+use Rattle.requests.proofs.Names.{AskedOver, AskedWhere, AsksNone-settled, BadHead, body_rules, BodyCoding, Breaks, Buffered, empty_reads, EndsEarly, Error, Heads, heads, heads_lawful, InBody, InsideGoes, IsBodyReader, IsOpen, IsSettled, LeadsOpen, left_of, Malformed, NextAnswer, NextPiece, nil_from_length, NoEnd, one_ahead, PiecesWent-stream, PiecesWent-unasked, Reader, ReaderState, rest, SendsUnless, Side, StdPolicy, stream_in, StreamLog, TookWholeBody, Unbuffered, usual, WritesOnlyHeld, WritesPromptly}
 use Rattle.codec.specs.declared.NextError.TheVariants as why
 use Rattle.requests.proofs.Sending.{WritesPromptly-asked, WritesPromptly-on, WritesPromptly-read, WritesPromptly-unsent, sent_then}
-use Rattle.requests.proofs.Reading.{begins_on, wrong_unasked}
+use Rattle.requests.proofs.Reading.{begins_on, inside_went, wrong_unasked}
 
 -- under the usual limits heads are the usual ones
 pub usually : {R : Type 0} {remaining : R → Option (List ℕ)} {s t : ReaderState R Heads} {answer : NextAnswer BadHead}
@@ -62,20 +61,24 @@ asks_where s t answer next unsettled = elim next.asked [
   | inr over ↦ over.1
 ]
 
+-- no more is buffered that can be handed out
+abbrev pub NoneLeft : {R : Type 0} → BodyCoding → Reader R → ℕ → ℕ → Type 0
+NoneLeft c d count asked = (count ≡ asked) ⊎ (TookWholeBody (body_rules c) d ⊎ (EndsEarly (body_rules c) d
+    ⊎ ((why : Side (Unit {0}) Malformed) × Breaks (body_rules c) why d)))
+
 -- a body of which something is buffered, and can't be handed out, isn't asked for
-shown_unasked : {R : Type 0} {slice : ℕ} (count : ℕ) (out : List ℕ) (m t : InBody R) → count ≡ 0 → 0 < length out
-    → (¬ (IsRest m.rest [] [])) → RunsShort (length out) count m.rest m.stream.left
-    → AskedWhere (AskedIn m.rest slice t.stream.log.reads.offer) m.stream t.stream → 0 < length m.stream.left
-    → t.stream.log ≡ m.stream.log
-shown_unasked {slice = slice} count out m t zero some goes_on short asked shown = elim short [
+shown_unasked : {R : Type 0} (count : ℕ) (out : List ℕ) (m t : InBody R) → IsBodyReader (body_rules m.body.coding) m.body
+    → count ≡ 0 → 0 < length out → ¬ (TookWholeBody (body_rules m.body.coding) m.body)
+    → NoneLeft m.body.coding m.body count (length out)
+    → AskedWhere (LeadsOpen (body_rules m.body.coding) m.body.place []) (stream_in m) (stream_in t)
+    → 0 < length (stream_in m).left → (stream_in t).log ≡ (stream_in m).log
+shown_unasked count out m t whole zero some goes_on short asked shown = elim short [
   | inl same ↦ absurd (omega (arith, same, zero, some))
   | inr none ↦ elim none [
     | inl done ↦ absurd (goes_on done)
     | inr left ↦ elim left [
-      | inl empty ↦ absurd (omega (arith, shown, ap length empty))
-      | inr wrong ↦ wrong_unasked m.stream t.stream m.rest wrong.0 wrong.1
-          (AskedWhere-of (AskedIn m.rest slice t.stream.log.reads.offer) (BeginsRest m.rest []) m.stream t.stream
-          (λ more ask. ask.goes_on) asked)
+      | inl early ↦ absurd (omega (arith, shown, early.settles_nothing.few, one_ahead m.body.coding))
+      | inr breaks ↦ wrong_unasked m t whole breaks.0 breaks.1 asked
     ]
   ]
 ]
@@ -97,46 +100,47 @@ module _ {R W : Type 0} {remaining : R → Option (List ℕ)} {tells : W → Str
         asked = elim (sent_then w v sends) [ inl settled ↦ inl (still settled) | inr all ↦ inr all ];
       }
 
--- a body of which nothing is buffered, and that goes on, is asked for
-empty_asked : {R : Type 0} {slice : ℕ} (m t : InBody R) (into : List ℕ) → m.stream.left ≡ [] → 0 < length into
-    → (¬ (IsRest m.rest [] [])) → AskedWhere (AskedIn m.rest slice t.stream.log.reads.offer) m.stream t.stream
-    → AsksForMore m.stream m.rest into t.stream → AskedOver (BeginsRest m.rest []) m.stream t.stream
-empty_asked {slice = slice} m t into empty room goes_on asked asks =
-    elim (AskedWhere-of (AskedIn m.rest slice t.stream.log.reads.offer) (BeginsRest m.rest []) m.stream t.stream
-    (λ more ask. ask.goes_on) asked) [
-      | inl same ↦ absurd (omega (arith, asks empty room goes_on, ap (λ l. l.reads.asks) same))
-      | inr over ↦ over
-    ]
+-- where the stream was asked more it was so where that lets it
+asked_more : {R : Type 0} (s t : Unbuffered R) (Open : List ℕ → Type 0) → AskedWhere Open s t
+    → s.log.reads.asks < t.log.reads.asks → AskedOver Open s t
+asked_more s t Open (inl same) more = absurd (omega (arith, more, ap (λ l. l.reads.asks) same))
+asked_more s t Open (inr over) more = over
+
+-- more of this body
+abbrev pub GoesOn : {R : Type 0} → InBody R → List ℕ → Type 0
+GoesOn b = LeadsOpen (body_rules b.body.coding) b.body.place []
 
 module _ {R W : Type 0} {remaining : R → Option (List ℕ)} {tells : W → StreamLog} {trace : W → W → Type 0}
     (none : (u : W) → trace u u) (joins : (u v x : W) → trace u v → trace v x → trace u x) (b m : InBody R)
-    (goes : InsideGoes remaining b [] m) (same : m.stream.log ≡ b.stream.log) (w v : Buffered W StdPolicy) where
+    (whole : IsBodyReader (body_rules b.body.coding) b.body) (goes : InsideGoes remaining b [] m)
+    (same : (stream_in m).log ≡ (stream_in b).log) (w v : Buffered W StdPolicy) where
   -- more of the body behind bytes that were no payload
   behind_none : (t : Unbuffered R) (sending : Result (Unit {0}) Error)
-      → WritesPromptly tells trace (BeginsRest m.rest []) (m.stream, w) sending (t, v)
-      → WritesPromptly tells trace (BeginsRest b.rest []) (b.stream, w) sending (t, v)
-  behind_none t sending = WritesPromptly-on joins (BeginsRest m.rest []) (BeginsRest b.rest []) (b.stream, w) (m.stream, w)
-      (t, v) sending goes.takes.went.order (λ more on. begins_on goes (m.stream.left ++ more) on)
-      (WritesPromptly-read (BeginsRest b.rest []) none w goes.takes.went.order same)
+      → WritesPromptly tells trace (GoesOn m) (stream_in m, w) sending (t, v)
+      → WritesPromptly tells trace (GoesOn b) (stream_in b, w) sending (t, v)
+  behind_none t sending = WritesPromptly-on joins (GoesOn m) (GoesOn b) (stream_in b, w) (stream_in m, w) (t, v) sending
+      (inside_went goes).order (λ more on. begins_on whole goes more on)
+      (WritesPromptly-read (GoesOn b) none w (inside_went goes).order same)
 
   -- what was held couldn't be sent where no more of a body is buffered
-  pub unsent_empty : (e : Error) → SendsUnless tells trace (0 < length m.stream.left) w (Err e) v
-      → WritesPromptly tells trace (BeginsRest b.rest []) (b.stream, w) (Err e) (m.stream, v)
-  unsent_empty e sends = behind_none m.stream (Err e) (WritesPromptly-unsent (BeginsRest m.rest []) none m.stream w v e sends
-      (λ lacks. inl (nil_from_length m.stream.left (omega (arith, lacks)))))
+  pub unsent_empty : (e : Error) → SendsUnless tells trace (0 < length (stream_in m).left) w (Err e) v
+      → WritesPromptly tells trace (GoesOn b) (stream_in b, w) (Err e) (stream_in m, v)
+  unsent_empty e sends = behind_none (stream_in m) (Err e) (WritesPromptly-unsent (GoesOn m) none (stream_in m) w v e sends
+      (λ lacks. inl (nil_from_length (stream_in m).left (omega (arith, lacks)))))
 
   -- or it was, and then the stream was asked for more
-  pub comes_inside : {slice : ℕ} {then : List ℕ} (count : ℕ) (out into : List ℕ) (t : InBody R)
-      → HandsOutInOrder m.stream then t.stream
-      → SendsUnless tells trace (0 < length m.stream.left) w (Ok tt) v → count ≡ 0 → 0 < length out
-      → (¬ (IsRest m.rest [] [])) → RunsShort (length out) count m.rest m.stream.left
-      → AskedWhere (AskedIn m.rest slice t.stream.log.reads.offer) m.stream t.stream
-      → 0 < length into → AsksForMore m.stream m.rest into t.stream
-      → WritesOnlyHeld tells trace (BeginsRest b.rest []) (b.stream, w) (t.stream, v)
-  comes_inside count out into t on sends zero some goes_on short asked room asks =
-      let still = shown_unasked count out m t zero some goes_on short asked in
+  pub comes_inside : {then : List ℕ} (t : InBody R) (count : ℕ) (out : List ℕ) → InsideGoes remaining m then t
+      → SendsUnless tells trace (0 < length (stream_in m).left) w (Ok tt) v → count ≡ 0 → 0 < length out
+      → ¬ (TookWholeBody (body_rules m.body.coding) m.body) → NoneLeft m.body.coding m.body count (length out)
+      → AskedWhere (GoesOn m) (stream_in m) (stream_in t)
+      → ((stream_in m).left ≡ [] → ¬ (TookWholeBody (body_rules m.body.coding) m.body)
+      → (stream_in m).log.reads.asks < (stream_in t).log.reads.asks)
+      → WritesOnlyHeld tells trace (GoesOn b) (stream_in b, w) (stream_in t, v)
+  comes_inside t count out more sends zero some goes_on short asked asks =
+      let still = shown_unasked count out m t goes.whole zero some goes_on short asked in
       record {
-        writes = behind_none t.stream (Ok tt) (WritesPromptly-asked (BeginsRest m.rest []) none m.stream t.stream w v on sends
-            (λ lacks. empty_asked m t into (nil_from_length m.stream.left (omega (arith, lacks))) room goes_on asked asks) still);
+        writes = behind_none (stream_in t) (Ok tt) (WritesPromptly-asked (GoesOn m) none (stream_in m) (stream_in t) w v
+            (inside_went more).order sends (λ lacks. asked_more (stream_in m) (stream_in t) (GoesOn m) asked
+            (asks (nil_from_length (stream_in m).left (omega (arith, lacks))) goes_on)) still);
         asked = elim (sent_then w v sends) [ inl shown ↦ inl (still shown ∙ same) | inr all ↦ inr all ];
       }

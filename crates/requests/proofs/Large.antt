@@ -1,6 +1,8 @@
 -- Which bodies are too large.
-use Rattle.std.proofs.Common.{◌≡◌, ℕ, ◌+◌, ◌-◌, ◌*◌, ◌^◌, ◌≤◌, ◌⊎◌, ◌||◌, nat_lt, min, Bool, false, List, [], Option, ◌++◌, length, sym, ap, subst, inl, inr, ◌∙◌, refl, arith}
-use Rattle.requests.proofs.Names.{Backward, BeginsRest, body_of, cases_lt, InBody, InsideGoes, is_large, IsAwaited, IsNewlyLarge, le-ltb, lt-ltb, max_payload, Onward, usual}
+use Rattle.std.proofs.Common.{◌≡◌, ℕ, ◌+◌, ◌-◌, ◌*◌, ◌^◌, ◌≤◌, ◌⊎◌, ◌++◌, ◌||◌, nat_lt, min, Bool, true, false, List, [], Option, length, sym, ap, subst, inl, inr, ◌∙◌, refl, arith}
+use Rattle.requests.proofs.Names.{body_rules, cases_lt, coding_of, Enters, false≢true, handed_of, InBody, InsideGoes, is_large, IsAwaited, IsBodyReader, le-ltb, LeadsOpen, lt-ltb, max_payload, TurnsLarge, usual}
+use Rattle.body_reader.specs.Coding.{Leads, heeded}
+use Rattle.body_reader.specs.CodingLaws.{Leads-more, heeded_on}
 use Rattle.messages.specs.declared.head.Extent.{Extent}
 use Rattle.messages.specs.declared.head.Extent.TheVariants.{Sized, Chunked}
 
@@ -20,49 +22,69 @@ large_counted Chunked n p = elim (cases_lt max_payload p) [
   | inr few ↦ ap (λ b. nat_lt max_payload p || b) (same_test n p few)
 ]
 
+-- so far payload is counted
+pub few_counted : (extent : Extent) (n p : ℕ) → is_large extent n p ≡ false → p ≤ max_payload
+few_counted (Sized all) n p small = elim (cases_lt max_payload p) [
+  | inl over ↦ absurd (false≢true (sym small ∙ ap (λ b. b || nat_lt max_payload all) (lt-ltb max_payload p over)))
+  | inr few ↦ few
+]
+few_counted Chunked n p small = elim (cases_lt max_payload p) [
+  | inl over ↦ absurd (false≢true (sym small ∙ ap (λ b. b || nat_lt (16384 + 6 * p) n) (lt-ltb max_payload p over)))
+  | inr few ↦ few
+]
+
 -- what a test of counts says of what was taken
-pub tested : (e e' : Extent) (m q : ℕ) (taken payload : List ℕ) (b : Bool) → b ≡ is_large e m q → e ≡ e'
-    → m ≡ min (length taken) (2 ^ 64 - 1) → q ≡ length payload → is_large e' (length taken) (length payload) ≡ b
-tested e e' m q taken payload b is same count len = sym (is ∙ ap (λ x. is_large x m q) same
-    ∙ ap (λ n. is_large e' n q) count ∙ ap (λ n. is_large e' (min (length taken) (2 ^ 64 - 1)) n) len
-    ∙ large_counted e' (length taken) (length payload))
+pub tested : (e e' : Extent) (m n : ℕ) (taken : List ℕ) (b : Bool) → b ≡ is_large e m n → e ≡ e'
+    → m ≡ min (length taken) (2 ^ 64 - 1) → is_large e' (length taken) n ≡ b
+tested e e' m n taken b is same count = sym (is ∙ ap (λ x. is_large x m n) same ∙ ap (λ k. is_large e' k n) count
+    ∙ large_counted e' (length taken) n)
 
 -- what was read is no older than the last read, where it wasn't too large before that
-pub fresh_behind : {S : Type 0} {remaining : S → Option (List ℕ)} {b m t : InBody S} (payload last : List ℕ)
-    → b.taken ≡ [] → b.rest ≡ body_of usual b.said.extent → InsideGoes remaining b payload m
-    → is_large b.said.extent (length m.taken) (length payload) ≡ false → InsideGoes remaining m last t
-    → (last ≡ []) ⊎ ((last ≡ t.calls.reads.latest) × (length last ≤ 4096))
-    → IsNewlyLarge b.said.extent t.calls.reads.latest t.taken (payload ++ last)
-fresh_behind {b = b} {m = m} payload last first whole goes small more noted =
-    let wire : goes.takes.wire ≡ m.taken = sym (goes.taken ∙ ap (λ l. l ++ goes.takes.wire) first) in
-    inr (
-      m.taken,
-      more.takes.wire,
-      payload,
-      last,
-      m.rest,
-      more.taken,
-      refl,
-      noted,
-      subst (λ r. Backward r m.taken payload m.rest) whole
-          (subst (λ l. Backward b.rest l payload m.rest) wire goes.takes.backward),
-      small,
-    )
+pub turns_large : {S : Type 0} {remaining : S → Option (List ℕ)} {m t : InBody S} {last : List ℕ} {n : ℕ}
+    → IsBodyReader (body_rules m.body.coding) m.body → InsideGoes remaining m last t
+    → (last ≡ []) ⊎ ((last ≡ t.body.calls.reads.latest) × (length last ≤ 4096))
+    → is_large t.said.extent (length m.body.taken) (length (handed_of m.body)) ≡ false
+    → n ≡ length (handed_of t.body) → is_large t.said.extent (length t.body.taken) n ≡ true → TurnsLarge t
+turns_large {m = m} {t = t} {last = last} whole goes noted small many large = record {
+  large = ap (is_large t.said.extent (length t.body.taken)) (sym many) ∙ large;
+  fresh = inr (
+    m.body,
+    goes.went.wire,
+    last,
+    subst (λ c. IsBodyReader (body_rules c) m.body) (sym goes.went.coding) whole,
+    goes.went.taken,
+    goes.went.handed,
+    noted,
+    small,
+  );
+}
 
 -- more of the body is awaited behind what was read of it, where that goes on and isn't too large
-pub awaited : {S : Type 0} {remaining : S → Option (List ℕ)} {b m : InBody S} (payload : List ℕ) → b.taken ≡ []
-    → b.rest ≡ body_of usual b.said.extent → (goes : InsideGoes remaining b payload m)
-    → is_large b.said.extent (length m.taken) (length payload) ≡ false → (bytes : List ℕ) → BeginsRest m.rest [] bytes
-    → IsAwaited b.said.extent (goes.takes.wire ++ bytes)
-awaited {b = b} {m = m} payload first whole goes small bytes on =
-    let wire : m.taken ≡ goes.takes.wire = goes.taken ∙ ap (λ l. l ++ goes.takes.wire) first in
+pub awaited : {S : Type 0} {remaining : S → Option (List ℕ)} {b m : InBody S} {payload : List ℕ} → Enters usual b
+    → (goes : InsideGoes remaining b payload m)
+    → is_large b.said.extent (length m.body.taken) (length (handed_of m.body)) ≡ false → (more : List ℕ)
+    → LeadsOpen (body_rules m.body.coding) m.body.place [] (m.body.reader.block.bytes ++ more)
+    → IsAwaited b.said.extent (goes.went.wire ++ (m.body.reader.block.bytes ++ more))
+awaited {b = b} {m = m} enters goes small more on =
+    let bytes = m.body.reader.block.bytes in
+    let handed = handed_of m.body in
+    let p = m.body.place in
+    let coding : m.body.coding ≡ coding_of usual b.said.extent = goes.went.coding ∙ ap (λ x. x.body.coding) enters.is in
+    let wire : m.body.taken ≡ goes.went.wire = goes.went.taken ∙ ap (λ x. x.body.taken ++ goes.went.wire) enters.is in
+    let ahead = heeded_on (body_rules m.body.coding) [] bytes more (bytes ++ more) refl in
+    let leads = Leads-more (body_rules m.body.coding) (body_rules m.body.coding).first p m.body.taken handed
+    (heeded (body_rules m.body.coding) bytes) ahead.0 goes.whole.leads in
     record {
-      front = goes.takes.wire;
-      behind = bytes;
+      front = goes.went.wire;
+      behind = bytes ++ more;
       equal = refl;
-      payload = payload;
-      rest = m.rest;
-      onward = subst (λ r. Onward r goes.takes.wire payload m.rest) whole goes.takes.onward;
-      small = subst (λ l. is_large b.said.extent (length l) (length payload) ≡ false) wire small;
-      more = on;
+      payload = handed;
+      place = p;
+      leads = subst (λ x. Leads (body_rules x) (body_rules x).first goes.went.wire handed p
+          (heeded (body_rules x) (bytes ++ more))) coding
+          (subst (λ l. Leads (body_rules m.body.coding) (body_rules m.body.coding).first l handed p
+          (heeded (body_rules m.body.coding) (bytes ++ more))) wire
+          (subst (Leads (body_rules m.body.coding) (body_rules m.body.coding).first m.body.taken handed p) (sym ahead.1) leads));
+      small = subst (λ l. is_large b.said.extent (length l) (length handed) ≡ false) wire small;
+      more = subst (λ x. LeadsOpen (body_rules x) p [] (bytes ++ more)) coding on;
     }

@@ -2,8 +2,14 @@
 pub use Rattle.buffer_redux.specs.Asking.{AskedOver, AskedWhere}
 pub use Rattle.buffer_redux.specs.Buffered.{Buffered}
 pub use Rattle.buffer_redux.specs.StreamLog.{StreamLog}
-pub use Rattle.buffer_redux.specs.Unbuffer.{HandsOutInOrder, StreamWent, Unbuffered}
-pub use Rattle.buffer_redux.specs.UnbufferLaws.{HandsOutInOrder-none, StreamWent-joins, StreamWent-none}
+pub use Rattle.body_reader.specs.BodyReader.{Breaks, EndsEarly, handed_of, IsBodyReader, NoPayload, ReadsPayload, TookWholeBody}
+pub use Rattle.body_reader.specs.Coding.{IsBody, LeadsOpen}
+pub use Rattle.body_reader.specs.declared.either.Side.{Side}
+pub use Rattle.buffer_redux.specs.Policy.{std_read_rules}
+pub use Rattle.buffer_redux.specs.Unbuffer.{HandsOutInOrder, StreamWent, Unbuffered, unbuffered}
+pub use Rattle.buffer_redux.specs.UnbufferLaws.{HandsOutInOrder-none, ReadsAlong-stream, StreamWent-joins, StreamWent-none}
+pub use Rattle.chunked.specs.declared.error.Malformed.{Malformed}
+pub use Rattle.chunked.specs.declared.place.Place.{Place as BodyPlace}
 pub use Rattle.buffer_redux.specs.WriteParts.{WritesParts}
 pub use Rattle.buffer_redux.specs.declared.policy.StdPolicy.{StdPolicy}
 pub use Rattle.codec.specs.Grammar.{IsOpen}
@@ -14,16 +20,16 @@ pub use Rattle.codec.specs.PiecesWentLaws.{PiecesWent-stream, PiecesWent-unasked
 pub use Rattle.messages.specs.Heads.{heads, IsHead}
 pub use Rattle.messages.specs.HeadsLaws.{heads_lawful, never_cut}
 pub use Rattle.messages.specs.Limits.{usual}
-pub use Rattle.messages.specs.Messages.{AskedIn, AsksForMore, Backward, BeginsRest, Begun, body_of, Bytes, Chunks, EachReadGave, Fails, FinishFails, GoesWrong, InBody, InsideGoes, InTurn, IsMessage, IsRest, Message, Onward, Rest, RunsShort, TakesWholeRest, Unended}
-pub use Rattle.messages.specs.MessagesLaws.{Begun-gave, Begun-message, Begun-went, handed_unasked, InsideGoes-joins, InsideGoes-none, Onward-joins}
+pub use Rattle.messages.specs.Messages.{Begun, body_error, body_rules, BodyCoding, coding_of, EachReadGave, Enters, FailsToFinish, FinishesBody, InBody, InsideGoes, InTurn, IsMessage, Message, Reader, TellsWhy, WhyNone}
+pub use Rattle.messages.specs.MessagesLaws.{Begun-gave, Begun-message, Begun-went, InsideGoes-joins, InsideGoes-none, one_ahead, whole_body}
 pub use Rattle.messages.specs.declared.bad_head.BadHead.{BadHead}
 pub use Rattle.messages.specs.declared.error.BodyError.TheVariants.{Io, Truncated, Wrong}
 pub use Rattle.messages.specs.declared.head.Heads.{Heads}
 pub use Rattle.messages.specs.declared.head.ParsedHead.{ParsedHead}
 pub use Rattle.programs.specs.Streams.{AllSent, EndsOnce}
 pub use Rattle.redux_buffer.specs.Faults.{FaultAfterInterrupts, FaultAfterInterrupts-after, MetInterrupts, MetInterrupts-joins, MetInterrupts-none, OnlyInterrupts, OnlyInterrupts-joins, OnlyInterrupts-none, OnlyInterrupts-one, SendErrorCaused-after}
-pub use Rattle.requests.specs.Answers.{AnswersEach, AnswersPart, AnswersWhole, AwaitsBody, CallsFor, Closes, Continues, EndedBeforeHead, ending_of, ends_of, EndsUntaken, FailsInRead, FailsOn, FailsToRead, faults_of, HadToAsk, IsAnswer, IsClosed, IsLastTurn, IsMany, IsPartTaken, IsTaken, IsToBeRefused, MayFollow, NoMoreAnswered, only_line_ends, ReadsSome, ReadsSteadily, Refuses, RunEndsBy, RunsToLast, sending_of, sent_till, sent_with, stream_at, TakeFails, TakesWhole, unfinished}
-pub use Rattle.requests.specs.Large.{is_large, IsAwaited, IsNewlyLarge, max_payload, TurnsLarge}
+pub use Rattle.requests.specs.Answers.{AnswersEach, AnswersPart, AnswersWhole, AwaitsBody, CallsFor, Closes, Continues, EndedBeforeHead, ending_of, ends_of, EndsUntaken, FailsInRead, FailsOn, FailsToRead, faults_of, HadToAsk, IsAnswer, IsClosed, IsLastTurn, IsMany, IsPartTaken, IsTaken, IsToBeRefused, MayFollow, NoMoreAnswered, only_line_ends, ReadsSome, ReadsSteadily, Refuses, RunEndsBy, RunsToLast, sending_of, sent_till, sent_with, stream_at, stream_in, TakeFails, TakesWhole}
+pub use Rattle.requests.specs.Large.{is_large, IsAwaited, max_payload, TurnsLarge}
 pub use Rattle.requests.specs.Sending.{AsksUnsettled, Both, IsHeld, IsStep, IsUnsettled, Prompt, PutsText, PutStops, SendsForRoom, SendsUnless, StepsAlong, WritesOnlyHeld, WritesPromptly}
 pub use Rattle.requests.specs.Texts.{answered, called, early_refusal, is_called, is_known, refusal, refusal_of, waits}
 pub use Rattle.requests.specs.declared.Ending.{Ending}
@@ -33,7 +39,7 @@ pub use Rattle.requests.specs.declared.Place.TheVariants.{Before, Inside}
 pub use Rattle.requests.specs.declared.taking.Untaken.{Untaken}
 pub use Rattle.requests.specs.declared.writing.Refusal.{Refusal}
 pub use Rattle.requests.specs.declared.writing.Refusal.TheVariants.{BadRequest, LargeBody, Unknown, Unmet}
-pub use Rattle.std.proofs.lemmas.Bool.{cases_lt, le-ltb, lt-ltb}
+pub use Rattle.std.proofs.lemmas.Bool.{cases_lt, false≢true, le-ltb, lt-ltb}
 pub use Rattle.std.proofs.lemmas.List.{append_cancel_left, length-take-le, nil_from_length}
 pub use Rattle.std.proofs.lemmas.List.Elements.{All-append, All-cons, All-nil}
 pub use Rattle.std.specs.declared.io.Error.{Error}

@@ -1,11 +1,19 @@
 -- What reads of a run met.
-use Rattle.std.proofs.Common.{◌≡◌, ℕ, ◌+◌, ◌≤◌, true, false, List, [], ◌∷◌, ◌++◌, All, length, Option, None, Some, IfSome, Result, Ok, Err, IfOk, IfErr, ◌⊎◌, sym, ap, subst, inl, inr, ◌∙◌, refl, arith, append_assoc, append-nil, length-append}
-use Rattle.requests.proofs.Names.{All-append, All-nil, AllSent, append_cancel_left, AskedIn, AskedWhere, BadHead, Before, BeginsRest, Begun, Begun-gave, Begun-went, body_of, Buffered, Bytes, Chunks, Closes, EachReadGave, EndedBeforeHead, EndsOnce, Error, Fails, FailsInRead, FailsOn, FailsToRead, FaultAfterInterrupts, FaultAfterInterrupts-after, faults_of, FinishFails, GoesWrong, HadToAsk, handed_unasked, heads, Heads, InBody, Inside, InsideGoes, Io, is_large, IsClosed, IsHead, IsMany, IsPartTaken, IsRest, IsToBeRefused, left_of, MayFollow, Message, NextAnswer, NextPiece, nil_from_length, NoMoreAnswered, OnlyInterrupts, OnlyInterrupts-joins, OnlyInterrupts-none, Onward, Onward-joins, PiecesWent-stream, Place, ReaderState, ReadsSome, ReadsSteadily, Refusal, Rest, sent_till, sent_with, StdPolicy, StreamWent, StreamWent-joins, TakeFails, TakesWhole, TakesWholeRest, Truncated, Unbuffered, Unended, unfinished, Untaken, usual, Wrong}
-use Rattle.chunked.specs.PlaceLaws.{Completes-nothing}
-use Rattle.chunked.specs.Place.{Completes}
-use Rattle.chunked.specs.declared.error.Malformed.{Malformed}
+use Rattle.std.proofs.Common.{◌≡◌, ◌≢◌, ℕ, ◌+◌, ◌≤◌, true, false, List, [], ◌∷◌, ◌++◌, All, length, Option, None, Some, IfSome, Result, Ok, Err, IfOk, IfErr, ◌⊎◌, sym, ap, subst, inl, inr, ◌∙◌, refl, arith, append_assoc, append-nil, length-append}
+use Rattle.requests.proofs.Names.{All-append, All-nil, AllSent, append_cancel_left, AskedWhere, BadHead, BadRequest, Before, Begun, Begun-gave, Begun-went, body_error, body_rules, BodyCoding, BodyPlace, Breaks, Buffered, Closes, coding_of, EachReadGave, EndedBeforeHead, EndsEarly, EndsOnce, Enters, Error, FailsInRead, FailsOn, FailsToFinish, FailsToRead, FaultAfterInterrupts, FaultAfterInterrupts-after, faults_of, FinishesBody, HadToAsk, handed_of, heads, Heads, InBody, Inside, InsideGoes, Io, IsBodyReader, IsClosed, IsHead, IsMany, IsPartTaken, IsToBeRefused, LeadsOpen, left_of, Malformed, MayFollow, Message, NextAnswer, NextPiece, NoMoreAnswered, NoPayload, OnlyInterrupts, OnlyInterrupts-joins, OnlyInterrupts-none, OnlyInterrupts-one, PiecesWent-stream, Place, Reader, ReaderState, ReadsAlong-stream, ReadsPayload, ReadsSome, ReadsSteadily, Refusal, sent_with, Side, std_read_rules, StdPolicy, stream_in, StreamWent, StreamWent-joins, TakeFails, TellsWhy, TookWholeBody, Unbuffered, unbuffered, Untaken, usual, WhyNone}
+use Rattle.body_reader.specs.Between.{EachGave, GaveNothingOnce}
+use Rattle.body_reader.specs.BetweenLaws.{AsksWithRoom-open, EachGave-same, StopsFor-after}
+use Rattle.body_reader.specs.BodyReader.{taken_count}
+use Rattle.body_reader.specs.BodyReaderLaws.{BodyWent-leads}
+use Rattle.body_reader.specs.Coding.{Agree, heeded}
+use Rattle.body_reader.specs.CodingLaws.{Agree-less, heeded_front, LeadsOpen-behind}
+use Rattle.body_reader.specs.declared.either.Side.TheVariants as side
+use Rattle.body_reader.specs.declared.error.BodyError.TheVariants as unread
 use Rattle.messages.specs.declared.error.BodyError.{BodyError}
+use Rattle.redux_buffer.specs.Faults.{IsInterrupt}
 use Rattle.requests.specs.declared.taking.Untaken.TheVariants.{Body, Large, Unsent, Many}
+use Rattle.std.specs.IoError.{error_kind}
+use Rattle.std.specs.declared.io.ErrorKind.TheVariants.{Interrupted}
 
 -- no fault was met, or one
 pub none_met : {a b : List Error} → b ≡ a → OnlyInterrupts a b
@@ -50,20 +58,18 @@ module _ {S : Type 0} {s m : Unbuffered S} (steady : ReadsSteadily s m) where
   pub steadily : {t : Unbuffered S} → ReadsSteadily m t → ReadsSteadily s t
   steadily {t} more = record { faults = joined t more.faults; ends = more.ends ∙ steady.ends }
 
-  pub IsToBeRefused-still : (place : Place S) (handed : List ℕ) (why : Refusal) → IsToBeRefused m place handed why
-      → IsToBeRefused s place handed why
-  IsToBeRefused-still (Before requests) handed why (inl none) = inl none
-  IsToBeRefused-still (Before requests) handed why (inr (is, more, some, cut)) =
+  pub IsToBeRefused-still : (place : Place S) (why : Refusal) → IsToBeRefused m place why → IsToBeRefused s place why
+  IsToBeRefused-still (Before requests) why (inl none) = inl none
+  IsToBeRefused-still (Before requests) why (inr (is, more, some, cut)) =
       inr (is, omega (arith, steady.ends, more), some, cut)
-  IsToBeRefused-still (Inside body) handed why (inl (is, inl torn)) = inl (is, inl torn)
-  IsToBeRefused-still (Inside body) handed why (inl (is, inr (more, none, cut))) =
-      inl (is, inr (omega (arith, steady.ends, more), none, cut))
-  IsToBeRefused-still (Inside body) handed why (inr large) = inr large
+  IsToBeRefused-still (Inside body) why (inl (is, inl torn)) = inl (is, inl torn)
+  IsToBeRefused-still (Inside body) why (inl (is, inr (more, cut))) = inl (is, inr (omega (arith, steady.ends, more), cut))
+  IsToBeRefused-still (Inside body) why (inr large) = inr large
 
-  pub each_wrong : (place : Place S) (handed : List ℕ) (refuses : Option Refusal) → IfSome refuses (IsToBeRefused m place handed)
-      → IfSome refuses (IsToBeRefused s place handed)
-  each_wrong place handed (Some why) wrong = IsToBeRefused-still place handed why wrong
-  each_wrong place handed None none = tt
+  pub each_wrong : (place : Place S) (refuses : Option Refusal) → IfSome refuses (IsToBeRefused m place)
+      → IfSome refuses (IsToBeRefused s place)
+  each_wrong place (Some why) wrong = IsToBeRefused-still place why wrong
+  each_wrong place None none = tt
 
   EndedBeforeHead-still : (place : Place S) → EndedBeforeHead m place → EndedBeforeHead s place
   EndedBeforeHead-still (Before requests) (more, none) = (omega (arith, steady.ends, more), none)
@@ -92,62 +98,79 @@ module _ {S : Type 0} {s m : Unbuffered S} (steady : ReadsSteadily s m) where
       → IsMany (more + count) s t
   IsMany-still more count t met many = omega (arith, many, no_shorter steady.faults, no_shorter met)
 
-  -- where no fault was met, none is why
-  no_fault : (b : InBody S) (e : Error) → Fails m (Io e) b.stream b.rest → faults_of b.stream ≡ faults_of m → ⊥
-  no_fault b e fault same =
-      omega (arith, ap length fault.0, ap length same, length-append (faults_of m) (e ∷ []))
+-- where no fault was met, none is why
+no_fault : {a b : List Error} (e : Error) → b ≡ a ++ e ∷ [] → b ≡ a → ⊥
+no_fault {a} e fault same = omega (arith, ap length fault, ap length same, length-append a (e ∷ []))
 
-  -- why a read in a body failed is why the whole isn't taken
-  pub TakeFails-of : {W : Type 0} (handed : List ℕ) (b : InBody S) (w : Buffered W StdPolicy) (e : Untaken)
-      → (b.stream.log ≡ m.log) ⊎ HadToAsk (Inside b) → FailsOn m e b w → TakeFails s handed e b w
-  TakeFails-of handed b w (Body (Wrong why)) asked (((gave, torn), hard), sent) =
-      (omega (arith, steady.ends, gave.1), joined b.stream (none_met gave.0), inl (refl, inl (why, torn)))
-  TakeFails-of handed b w (Body (Truncated due)) asked (((none, end, left, cut, so_many), hard), sent) = (
-    omega (arith, steady.ends, end),
-    joined b.stream (none_met none),
-    inl (refl, inr (omega (arith, steady.ends, end), left, cut)),
-  )
-  TakeFails-of handed b w (Body (Io e)) asked (((fault, none), hard), sent) = (
-    omega (arith, steady.ends, none),
-    (failed_behind (faults_of s) (faults_of m) (faults_of b.stream) e steady.faults fault, hard e refl),
-    elim sent [ inl same ↦ absurd (no_fault b e (fault, none) (ap (λ l. l.reads.faults) same)) | inr all ↦ all ],
-    elim asked [ inl same ↦ absurd (no_fault b e (fault, none) (ap (λ l. l.reads.faults) same)) | inr had ↦ had ],
-  )
-  TakeFails-of handed b w (Unsent e) asked gave = steadily (steady_none gave)
-  TakeFails-of handed b w Large asked odd = elim odd [ ]
-  TakeFails-of handed b w Many asked odd = elim odd [ ]
+-- why a read in a body failed is why the whole isn't taken
+module _ {S W : Type 0} {s : Unbuffered S} (a b : InBody S) (steady : ReadsSteadily s (stream_in a)) (w : Buffered W StdPolicy)
+  where
+    broken : EachGave a.body.reader b.body.reader → (name : Side (Unit {0}) Malformed)
+        → Breaks (body_rules b.body.coding) name b.body → EndsOnce s.log.reads (stream_in b).log.reads
+        × OnlyInterrupts (faults_of s) (faults_of (stream_in b)) × IsToBeRefused s (Inside b) BadRequest
+    broken gave name breaks = (
+      omega (arith, steady.ends, gave.zero_reads),
+      joined steady (stream_in b) (none_met gave.faults),
+      inl (refl, inl (name, breaks)),
+    )
 
-  pub TakeFails-behind : {W : Type 0} (handed more : List ℕ) (b : InBody S) (w : Buffered W StdPolicy) (why : BodyError)
-      → FinishFails m more why b.stream b.rest → EachReadGave m b.stream → TakeFails s (handed ++ more) (unfinished why) b w
-  TakeFails-behind handed more b w (Wrong why) (inl (gave, torn)) same =
-      (omega (arith, steady.ends, gave.1), joined b.stream (none_met gave.0), inl (refl, inl (why, torn)))
-  TakeFails-behind handed more b w (Truncated due) (inl (none, end, left, cut, many)) same = absurd (omega (arith, end, same.1))
-  TakeFails-behind handed more b w (Io e) (inl fails) same = absurd (no_fault b e fails same.0)
-  TakeFails-behind handed more b w (Wrong why) (inr (e, is, other, many, gave)) same = absurd (cc)
-  TakeFails-behind handed more b w (Truncated due) (inr (e, is, other, many, gave)) same = absurd (cc)
-  TakeFails-behind handed more b w (Io why) (inr (e, is, other, many, gave)) same =
-      (steadily (steady_none same), omega (arith, many, length-append handed more))
+    cut_off : GaveNothingOnce a.body.reader b.body.reader → EndsEarly (body_rules b.body.coding) b.body
+        → EndsOnce s.log.reads (stream_in b).log.reads × OnlyInterrupts (faults_of s) (faults_of (stream_in b))
+        × IsToBeRefused s (Inside b) BadRequest
+    cut_off met early = (
+      omega (arith, steady.ends, met.1),
+      joined steady (stream_in b) (none_met met.0),
+      inl (refl, inr (omega (arith, steady.ends, met.1), early)),
+    )
 
--- why a read fails is said of what it asked
-Fails-asked : {S : Type 0} (s m : Unbuffered S) (e : BodyError) (t : Unbuffered S) (r : Rest) → m.log ≡ s.log
-    → Fails m e t r → Fails s e t r
-Fails-asked s m (Wrong why) t r same fails = subst (λ l. Fails (record s { log = l }) (Wrong why) t r) same fails
-Fails-asked s m (Truncated due) t r same fails = subst (λ l. Fails (record s { log = l }) (Truncated due) t r) same fails
-Fails-asked s m (Io e) t r same fails = subst (λ l. Fails (record s { log = l }) (Io e) t r) same fails
+    none_comes : (place : Side ℕ BodyPlace) (why : WhyNone)
+        → ((e : Error) → body_error place why ≡ Io e → error_kind e ≢ Interrupted)
+        → ((stream_in b).log ≡ (stream_in a).log) ⊎ AllSent w → ((stream_in b).log ≡ (stream_in a).log) ⊎ HadToAsk (Inside b)
+        → NoPayload (body_rules b.body.coding) a.body why b.body → TakeFails s (Body (body_error place why)) b w
+    none_comes place (unread.Wrong (side.First none) right) hard sent asked fails = broken fails.1 (side.First none) fails.2
+    none_comes place (unread.Wrong (side.Second name) right) hard sent asked fails = broken fails.1 (side.Second name) fails.2
+    none_comes (side.First due) (unread.Truncated right) hard sent asked fails = cut_off fails.1 fails.2
+    none_comes (side.Second q) (unread.Truncated right) hard sent asked fails = cut_off fails.1 fails.2
+    none_comes place (unread.Io e) hard sent asked fails = (
+      omega (arith, steady.ends, fails.0.1),
+      (failed_behind (faults_of s) (faults_of (stream_in a)) (faults_of (stream_in b)) e steady.faults fails.0.0, hard e refl),
+      elim sent [ inl same ↦ absurd (no_fault e fails.0.0 (ap (λ l. l.reads.faults) same)) | inr all ↦ all ],
+      elim asked [ inl same ↦ absurd (no_fault e fails.0.0 (ap (λ l. l.reads.faults) same)) | inr had ↦ had ],
+    )
+
+    pub TakeFails-of : (e : Untaken) → ((stream_in b).log ≡ (stream_in a).log) ⊎ HadToAsk (Inside b) → FailsOn a e b w
+        → TakeFails s e b w
+    TakeFails-of (Body e) asked ((why, told, none, hard), sent) = subst (λ x. TakeFails s (Body x) b w) (sym told)
+        (none_comes b.body.place why (λ x is. hard x (told ∙ is)) sent asked none)
+    TakeFails-of (Unsent e) asked gave = steadily steady (steady_none gave)
+    TakeFails-of Large asked odd = elim odd [ ]
+    TakeFails-of Many asked odd = elim odd [ ]
 
 -- what is said of a read of it is so since the stream was asked last
-module _ {S : Type 0} (s m : Unbuffered S) (t : InBody S) (same : m.log ≡ s.log) where
-  pub reads_since : (answer : Result ℕ Untaken) → IfOk answer (λ n. ReadsSome m n t) → IfOk answer (λ n. ReadsSome s n t)
+module _ {S : Type 0} (a m t : InBody S) (same : (stream_in m).log ≡ (stream_in a).log) where
+  pub reads_since : (answer : Result ℕ Untaken) → IfOk answer (λ n. ReadsSome (stream_in m) n t)
+      → IfOk answer (λ n. ReadsSome (stream_in a) n t)
   reads_since (Ok n) r = record {
-    steady = steadily (steady_none (unasked s m same)) r.steady;
+    steady = steadily (steady_none (unasked (stream_in a) (stream_in m) same)) r.steady;
     more = elim r.more [ inl ended ↦ inl ended | inr some ↦ inr (omega (arith, some, ap (λ l. length l.reads.faults) same)) ];
   }
   reads_since (Err e) r = tt
 
   pub fails_since : {W : Type 0} {v : Buffered W StdPolicy} (answer : Result ℕ Untaken)
-      → ((t.stream.log ≡ s.log) ⊎ AllSent v) → IfErr answer (λ e. FailsToRead m e t) → IfErr answer (λ e. FailsOn s e t v)
+      → ((stream_in t).log ≡ (stream_in a).log) ⊎ AllSent v → IfErr answer (λ e. FailsToRead m e t)
+      → IfErr answer (λ e. FailsOn a e t v)
   fails_since (Ok n) asked f = tt
-  fails_since (Err (Body e)) asked f = ((Fails-asked s m e t.stream t.rest same f.0, f.1), asked)
+  fails_since (Err (Body e)) asked (why, told, none, hard) = (
+    (
+      why,
+      told,
+      StopsFor-after (taken_count t.body) (λ x. Breaks (body_rules t.body.coding) x t.body)
+          (EndsEarly (body_rules t.body.coding) t.body) a.body.reader m.body.reader t.body.reader
+          (EachGave-same a.body.reader m.body.reader same) why none,
+      hard,
+    ),
+    asked,
+  )
   fails_since (Err (Unsent e)) asked f = elim f [ ]
   fails_since (Err Large) asked f = elim f [ ]
   fails_since (Err Many) asked f = elim f [ ]
@@ -159,63 +182,115 @@ module _ {S : Type 0} (s m : Unbuffered S) (t : InBody S) (same : m.log ≡ s.lo
   sent_so (Err Large) f = elim f [ ]
   sent_so (Err Many) f = elim f [ ]
 
--- what begins the rest behind bytes that were no payload begins it with them
-pub begins_on : {S : Type 0} {remaining : S → Option (List ℕ)} {b m : InBody S} (goes : InsideGoes remaining b [] m)
-    (bytes : List ℕ) → BeginsRest m.rest [] bytes → BeginsRest b.rest [] (goes.takes.wire ++ bytes)
-begins_on {b = b} {m = m} goes bytes on = record {
-  rest = on.rest;
-  onward = Onward-joins b.rest m.rest on.rest goes.takes.wire bytes [] [] goes.takes.onward on.onward;
-  more = on.more;
-}
+-- calls in a body, as those of its stream
+pub inside_went : {S : Type 0} {remaining : S → Option (List ℕ)} {b t : InBody S} {handed : List ℕ}
+    (goes : InsideGoes remaining b handed t) → StreamWent remaining (stream_in b) goes.went.wire (stream_in t)
+inside_went {remaining = remaining} {b = b} {t = t} goes =
+    ReadsAlong-stream remaining std_read_rules b.body.reader goes.went.wire t.body.reader goes.went.along
 
--- a read behind bytes that were no payload, and for which nothing was asked, asks where they and what comes begin the rest
-pub asked_before : {S : Type 0} {remaining : S → Option (List ℕ)} {slice offer : ℕ} {b m : InBody S} (t : Unbuffered S)
-    → m.stream.log ≡ b.stream.log → InsideGoes remaining b [] m → AskedWhere (AskedIn m.rest slice offer) m.stream t
-    → AskedWhere (BeginsRest b.rest []) b.stream t
-asked_before t same goes (inl none) = inl (none ∙ same)
-asked_before {b = b} {m = m} t same goes (inr over) =
-    let left = handed_unasked goes.takes.went.order same in
-    inr (record {
-      came = over.came;
-      given = over.given ∙ ap (λ l. l.reads.given ++ (over.came ++ t.log.reads.latest)) same;
-      such = subst (BeginsRest b.rest [])
-          (sym (append_assoc goes.takes.wire m.stream.left over.came) ∙ ap (λ l. l ++ over.came) left)
-          (begins_on goes (m.stream.left ++ over.came) over.such.goes_on);
-      some = omega (arith, over.some, ap (λ l. l.reads.asks) same);
-      asks = omega (arith, over.asks, ap (λ l. l.reads.asks) same);
-    })
+-- behind bytes that were no payload the body goes on as it does from them
+pub begins_on : {S : Type 0} {remaining : S → Option (List ℕ)} {b m : InBody S}
+    → IsBodyReader (body_rules b.body.coding) b.body → (goes : InsideGoes remaining b [] m) → (more : List ℕ)
+    → LeadsOpen (body_rules m.body.coding) m.body.place [] (m.body.reader.block.bytes ++ more)
+    → LeadsOpen (body_rules b.body.coding) b.body.place [] (goes.went.wire ++ (m.body.reader.block.bytes ++ more))
+begins_on {remaining = remaining} {b = b} {m = m} whole goes more on =
+    let bytes = m.body.reader.block.bytes in
+    LeadsOpen-behind (body_rules b.body.coding) b.body.place m.body.place goes.went.wire [] [] bytes more
+    (BodyWent-leads remaining std_read_rules (body_rules b.body.coding) b.body m.body [] whole
+    (subst (λ c. IsBodyReader (body_rules c) m.body) goes.went.coding goes.whole) goes.went)
+    (subst (λ c. LeadsOpen (body_rules c) m.body.place [] (bytes ++ more)) goes.went.coding on)
 
--- where such a read was made behind some of a body, that goes on
-pub had_to_ask : {S : Type 0} {remaining : S → Option (List ℕ)} {b m t : InBody S} {payload handed : List ℕ} → b.taken ≡ []
-    → b.rest ≡ body_of usual b.said.extent → InsideGoes remaining b payload m → InsideGoes remaining m handed t
-    → AskedWhere (BeginsRest m.rest []) m.stream t.stream → (t.stream.log ≡ m.stream.log) ⊎ HadToAsk (Inside t)
-had_to_ask first whole before more (inl same) = inl same
-had_to_ask {b = b} {m = m} {t = t} {payload = payload} first whole before more (inr over) =
-    let order = more.takes.went.order in
-    let latest = t.stream.log.reads.latest in
-    let got : order.got ≡ over.came ++ latest =
-    append_cancel_left m.stream.log.reads.given order.got (over.came ++ latest) (sym order.given ∙ over.given) in
-    let wire : before.takes.wire ≡ m.taken = sym (before.taken ∙ ap (λ l. l ++ before.takes.wire) first) in
-    let onward : Onward (body_of usual t.said.extent) m.taken payload m.rest =
-    subst (λ x. Onward (body_of usual x.extent) m.taken payload m.rest) (sym (more.said ∙ before.said))
-    (subst (λ l. Onward (body_of usual b.said.extent) l payload m.rest) wire
-    (subst (λ r. Onward r before.takes.wire payload m.rest) whole before.takes.onward)) in
-    inr (
-      m.taken ++ (m.stream.left ++ over.came),
-      ap (λ l. l ++ t.stream.left) more.taken ∙ append_assoc m.taken more.takes.wire t.stream.left
-          ∙ ap (λ l. m.taken ++ l)
-          (order.equal ∙ ap (λ l. m.stream.left ++ l) got ∙ sym (append_assoc m.stream.left over.came latest))
-          ∙ sym (append_assoc m.taken (m.stream.left ++ over.came) latest),
-      (
-        payload ++ [],
-        record {
-          rest = over.such.rest;
-          onward = Onward-joins (body_of usual t.said.extent) m.rest over.such.rest m.taken (m.stream.left ++ over.came)
-              payload [] onward over.such.onward;
-          more = over.such.more;
-        },
-      ),
-    )
+-- a read of what goes on, behind some of a body
+module _ {S : Type 0} (m t : InBody S) (whole : IsBodyReader (body_rules m.body.coding) m.body) where
+  goes_on : (came : List ℕ) → LeadsOpen (body_rules m.body.coding) m.body.place [] (m.body.reader.block.bytes ++ came)
+      → LeadsOpen (body_rules m.body.coding) (body_rules m.body.coding).first (handed_of m.body ++ [])
+      (m.body.taken ++ (m.body.reader.block.bytes ++ came))
+  goes_on came = LeadsOpen-behind (body_rules m.body.coding) (body_rules m.body.coding).first m.body.place m.body.taken
+      (handed_of m.body) [] m.body.reader.block.bytes came whole.leads
+
+  pub had_to_ask : {remaining : S → Option (List ℕ)} {handed : List ℕ} → InsideGoes remaining m handed t
+      → AskedWhere (LeadsOpen (body_rules m.body.coding) m.body.place []) (stream_in m) (stream_in t)
+      → ((stream_in t).log ≡ (stream_in m).log) ⊎ HadToAsk (Inside t)
+  had_to_ask more (inl same) = inl same
+  had_to_ask more (inr over) =
+      let order = more.went.along.in_order in
+      let latest = t.body.reader.log.reads.latest in
+      let bytes = m.body.reader.block.bytes in
+      let there = m.body.taken ++ (bytes ++ over.came) in
+      let got : order.got ≡ over.came ++ latest =
+      append_cancel_left m.body.reader.log.reads.given order.got (over.came ++ latest) (sym order.given ∙ over.given) in
+      inr (
+        there,
+        ap (λ l. l ++ t.body.reader.block.bytes) more.went.taken
+            ∙ append_assoc m.body.taken more.went.wire t.body.reader.block.bytes
+            ∙ ap (λ l. m.body.taken ++ l)
+            (order.equal ∙ ap (λ l. bytes ++ l) got ∙ sym (append_assoc bytes over.came latest))
+            ∙ sym (append_assoc m.body.taken (bytes ++ over.came) latest),
+        subst (λ c. (came : List ℕ) × LeadsOpen (body_rules c) (body_rules c).first came there) (sym more.went.coding)
+            (handed_of m.body ++ [], goes_on over.came over.such),
+      )
+
+  -- none is made where what comes next is wrong
+  pub wrong_unasked : (why : Side (Unit {0}) Malformed) → Breaks (body_rules m.body.coding) why m.body
+      → AskedWhere (LeadsOpen (body_rules m.body.coding) m.body.place []) (stream_in m) (stream_in t)
+      → (stream_in t).log ≡ (stream_in m).log
+  wrong_unasked why breaks (inl same) = same
+  wrong_unasked why breaks (inr over) =
+      let bytes = m.body.reader.block.bytes in
+      let o = goes_on over.came over.such in
+      let behind = o.settles_nothing.behind in
+      let front = heeded_front (body_rules m.body.coding) o.shown in
+      let agree = Agree-less (heeded (body_rules m.body.coding) o.shown) front.0 (o.shown ++ behind)
+      (subst (λ l. Agree l (o.shown ++ behind)) front.1 (behind, [], sym (append-nil (o.shown ++ behind)))) in
+      absurd (breaks.none (o.wire ++ (o.shown ++ behind)) _ [] (over.came ++ behind)
+      (o.leads.onward (o.shown ++ behind) o.settles_nothing.payload agree o.settles_nothing.completes)
+      (append-nil (o.wire ++ (o.shown ++ behind)) ∙ sym (append_assoc o.wire o.shown behind)
+      ∙ ap (λ l. l ++ behind) (sym o.equal) ∙ append_assoc m.body.taken (bytes ++ over.came) behind
+      ∙ ap (λ l. m.body.taken ++ l) (append_assoc bytes over.came behind)))
+
+-- it failed for this reason
+was_fault : (place : Side ℕ BodyPlace) (why : WhyNone) (e : Error) → Io e ≡ body_error place why → why ≡ unread.Io e
+was_fault place (unread.Wrong (side.First none) right) e same = absurd (cc)
+was_fault place (unread.Wrong (side.Second name) right) e same = absurd (cc)
+was_fault (side.First due) (unread.Truncated right) e same = absurd (cc)
+was_fault (side.Second q) (unread.Truncated right) e same = absurd (cc)
+was_fault place (unread.Io fault) e same = cc
+
+-- what one read did, whatever it answered
+module _ {S : Type 0} (remaining : S → Option (List ℕ)) (s t : InBody S) (out : List ℕ) where
+  abbrev pub Reads : Result ℕ BodyError → Type 0
+  Reads = TellsWhy t.body.place
+      (λ told. ReadsPayload remaining std_read_rules (body_rules s.body.coding) s.body out told t.body)
+
+  pub read_asked : (answer : Result ℕ BodyError) → Reads answer
+      → AskedWhere (LeadsOpen (body_rules s.body.coding) s.body.place []) (stream_in s) (stream_in t)
+  read_asked (Ok n) reads = AsksWithRoom-open remaining std_read_rules (body_rules s.body.coding) (length out) s.body.reader
+      s.body.place t.body.reader reads.asked
+  read_asked (Err e) (why, told, reads) = AsksWithRoom-open remaining std_read_rules (body_rules s.body.coding) (length out)
+      s.body.reader s.body.place t.body.reader reads.asked
+
+  pub read_fails : (e : BodyError) → Reads (Err e) → ((fault : Error) → e ≡ Io fault → error_kind fault ≢ Interrupted)
+      → FailsToRead s (Body e) t
+  read_fails e (why, told, reads) hard = (
+    why,
+    told,
+    subst (λ c. NoPayload (body_rules c) s.body why t.body) (sym reads.went.coding) reads.answers,
+    hard,
+  )
+
+  -- it was interrupted
+  pub read_again : (told : BodyError) (e : Error) → Reads (Err told) → told ≡ Io e → IsInterrupt e
+      → ReadsSome (stream_in s) 0 t
+  read_again told e (why, is, reads) same interrupted =
+      let fault = subst (λ x. NoPayload (body_rules s.body.coding) s.body x t.body)
+      (was_fault t.body.place why e (sym same ∙ is)) reads.answers in
+      record {
+        steady = record {
+          faults = OnlyInterrupts-one (faults_of (stream_in s)) (faults_of (stream_in t)) e interrupted fault.0.0;
+          ends = fault.0.1;
+        };
+        more = inr (omega (arith, ap length fault.0.0, length-append (faults_of (stream_in s)) (e ∷ [])));
+      }
 
 -- a call that goes into no message takes nothing
 pub nothing_went : {R : Type 0} {remaining : R → Option (List ℕ)} {s t : ReaderState R Heads} {answer : NextAnswer BadHead}
@@ -227,90 +302,67 @@ nothing_went {R} {remaining} {s} {t} next none =
 -- the head of a message went without a fault, and no end was met
 module _ {R : Type 0} {remaining : R → Option (List ℕ)} {s : ReaderState R Heads} {b : InBody R}
     (begun : Begun remaining s b) where
-  pub begun_steady : ReadsSteadily (left_of s) b.stream
+  pub begun_steady : ReadsSteadily (left_of s) (stream_in b)
   begun_steady = steady_none (Begun-gave remaining s b begun)
 
-  pub begun_once : (t : Unbuffered R) → EndsOnce b.stream.log.reads t.log.reads → EndsOnce (left_of s).log.reads t.log.reads
+  pub begun_once : (t : Unbuffered R) → EndsOnce (stream_in b).log.reads t.log.reads → EndsOnce (left_of s).log.reads t.log.reads
   begun_once t once = omega (arith, once, begun_steady.ends)
 
-  -- all of its body is to come
-  pub begun_whole : s.decoder.0 ≡ usual → b.rest ≡ body_of usual b.said.extent
-  begun_whole same = begun.rest ∙ ap (λ l. body_of l b.said.extent) (begun.limits ∙ same)
+  -- it is one under the usual limits
+  pub begun_enters : s.decoder.0 ≡ usual → Enters usual b
+  begun_enters same = subst (λ l. Enters l b) same begun.enters
+
+  pub begun_usual : Enters usual b → s.decoder.0 ≡ usual
+  begun_usual enters = sym (ap (λ x. x.limits) begun.enters.is) ∙ ap (λ x. x.limits) enters.is
+
+  pub begun_head : Enters usual b → IsHead usual b.head b.said
+  begun_head enters = subst (λ l. IsHead l b.head b.said) (begun_usual enters) begun.is
 
   -- a part of it was taken
   pub part_went : {t : InBody R} {handed : List ℕ} (goes : InsideGoes remaining b handed t)
-      → StreamWent remaining (left_of s) (b.head ++ goes.takes.wire) t.stream
-  part_went {t} goes = StreamWent-joins remaining (left_of s) b.stream t.stream b.head goes.takes.wire
-      (Begun-went remaining s b begun) goes.takes.went
+      → StreamWent remaining (left_of s) (b.head ++ goes.went.wire) (stream_in t)
+  part_went {t} goes = StreamWent-joins remaining (left_of s) (stream_in b) (stream_in t) b.head goes.went.wire
+      (Begun-went remaining s b begun) (inside_went goes)
 
-  pub is_part : {t : InBody R} {handed : List ℕ} → b.limits ≡ usual → (goes : InsideGoes remaining b handed t)
-      → IsPartTaken (Inside t) (b.head ++ goes.takes.wire) handed
-  is_part {t} {handed} same goes =
-      let taken : goes.takes.wire ≡ t.taken = sym (goes.taken ∙ ap (λ l. l ++ goes.takes.wire) begun.taken) in (
-        ap (λ l. l ++ goes.takes.wire) (sym goes.head) ∙ ap (λ l. t.head ++ l) taken,
-        subst (λ h. IsHead usual h t.said) (sym goes.head) (subst (λ x. IsHead usual b.head x) (sym goes.said)
-            (subst (λ l. IsHead l b.head b.said) same begun.is)),
-        subst (λ x. Onward (body_of usual x.extent) t.taken handed t.rest) (sym goes.said)
-            (subst (λ l. Onward (body_of usual b.said.extent) l handed t.rest) taken
-            (subst (λ l. Onward (body_of l b.said.extent) goes.takes.wire handed t.rest) same
-            (subst (λ r. Onward r goes.takes.wire handed t.rest) begun.rest goes.takes.onward))),
-      )
+  pub is_part : {t : InBody R} {handed : List ℕ} → Enters usual b → (goes : InsideGoes remaining b handed t)
+      → IsPartTaken (Inside t) (b.head ++ goes.went.wire) (handed_of t.body)
+  is_part {t} enters goes = (
+    ap (λ l. l ++ goes.went.wire) (sym goes.head)
+        ∙ ap (λ l. t.head ++ l) (sym (goes.went.taken ∙ ap (λ x. x.body.taken ++ goes.went.wire) enters.is)),
+    refl,
+    subst (λ h. IsHead usual h t.said) (sym goes.head)
+        (subst (λ x. IsHead usual b.head x) (sym goes.said) (begun_head enters)),
+    goes.went.coding ∙ ap (λ x. x.body.coding) enters.is ∙ ap (λ x. coding_of usual x.extent) (sym goes.said),
+    goes.whole,
+  )
 
--- nothing is left where none is
-nothing_more : (r : Rest) (wire payload : List ℕ) → IsRest r [] [] → IsRest r wire payload
-    → (wire ≡ []) × (payload ≡ [])
-nothing_more (Bytes n) wire payload none is =
-    let empty : wire ≡ [] = nil_from_length wire (is.0 ∙ sym none.0) in (empty, is.1 ∙ empty)
-nothing_more (Chunks limits place) wire payload none is =
-    let done = subst (λ p. Completes limits p wire payload) (Completes-nothing limits place [] none) is in (done.1, done.0)
+-- behind a body that ended nothing is wrong, or missing
+never_fails : {S : Type 0} (c : BodyCoding) (s t : Reader S) → TookWholeBody (body_rules c) t → (why : WhyNone)
+    → ¬ (NoPayload (body_rules c) s why t)
+never_fails c s t all (unread.Wrong name right) none = none.2.none t.taken (handed_of t) t.reader.block.bytes [] all
+    (ap (λ l. t.taken ++ l) (sym (append-nil t.reader.block.bytes)))
+never_fails c s t all (unread.Truncated right) none = none.2.none t.taken (handed_of t) t.reader.block.bytes all refl
+never_fails c s t all (unread.Io e) none = none.1.none t.taken (handed_of t) t.reader.block.bytes all refl
 
--- the stream isn't asked for more of it then
-pub unasked_log : {S : Type 0} (s t : Unbuffered S) (r : Rest) → IsRest r [] [] → AskedWhere (Unended r) s t
-    → t.log ≡ s.log
-unasked_log s t r none (inl same) = same
-unasked_log s t r none (inr over) =
-    let bytes = s.left ++ over.came in
-    let on = over.such.1 in
-    let more = on.more in
-    let all = nothing_more r (bytes ++ more.0) (over.such.0 ++ more.1) none (on.onward more.0 more.1 more.3) in
-    absurd (omega (arith, more.2, ap length all.0, length-append bytes more.0))
+-- so it can be finished, and leaves the reader where it stands
+module _ {S : Type 0} {remaining : S → Option (List ℕ)} {m : InBody S} (whole : TookWholeBody (body_rules m.body.coding) m.body)
+  where
+    pub left_there : {next : ReaderState S Heads} → FinishesBody remaining m next → left_of next ≡ stream_in m
+    left_there ends = ends.left ∙ ap (λ d. unbuffered d.reader) (ends.drains.ended whole)
 
--- nor where what comes next is wrong
-pub wrong_unasked : {S : Type 0} (s t : Unbuffered S) (r : Rest) (name : Malformed) → GoesWrong r s.left name
-    → AskedWhere (BeginsRest r []) s t → t.log ≡ s.log
-wrong_unasked s t (Bytes n) name wrong asked = elim wrong [ ]
-wrong_unasked s t (Chunks limits place) name wrong (inl same) = same
-wrong_unasked s t (Chunks limits place) name wrong (inr over) =
-    let on = over.such in
-    let later = on.more.0 in
-    let all = (s.left ++ over.came) ++ later in
-    absurd (wrong.1 (over.came ++ later) all [] on.more.1
-    (sym (append_assoc s.left over.came later) ∙ sym (append-nil all)) (on.onward later on.more.1 on.more.3))
-
--- all was sent where the end of a body wasn't taken
-pub unfinished_sent : (e : BodyError) → sent_till (unfinished e) ≡ Ok tt
-unfinished_sent (Wrong why) = refl
-unfinished_sent (Truncated due) = refl
-unfinished_sent (Io e) = refl
-
--- what was read, and what ended it, is the whole body
-pub whole_taken : {R : Type 0} (remaining : R → Option (List ℕ)) (b m : InBody R) (payload : List ℕ) (t : Unbuffered R) (len : ℕ)
-    → InsideGoes remaining b payload m → len ≡ length payload → IsRest m.rest [] []
-    → is_large m.said.extent (length m.taken) len ≡ false → TakesWholeRest remaining m.stream m.rest t
-    → TakesWhole remaining b t len
-whole_taken remaining b m payload t len goes many none small ends =
-    let nothing = nothing_more m.rest ends.wire ends.payload none ends.is in
-    let all : len ≡ length (payload ++ ends.payload) =
-    many ∙ ap length (sym (append-nil payload)) ∙ ap (λ l. length (payload ++ l)) (sym nothing.1) in
-    let wire : goes.takes.wire ++ ends.wire ≡ goes.takes.wire =
-    ap (λ l. goes.takes.wire ++ l) nothing.0 ∙ append-nil goes.takes.wire in (
-      goes.takes.wire ++ ends.wire,
-      payload ++ ends.payload,
-      StreamWent-joins remaining b.stream m.stream t goes.takes.wire ends.wire goes.takes.went ends.went,
-      goes.takes.onward ends.wire ends.payload ends.is,
-      all,
-      subst (λ n. is_large b.said.extent (length (b.taken ++ (goes.takes.wire ++ ends.wire))) n ≡ false) all
-          (subst (λ l. is_large b.said.extent (length l) len ≡ false)
-          (goes.taken ∙ ap (λ l. b.taken ++ l) (sym wire))
-          (subst (λ x. is_large x.extent (length m.taken) len ≡ false) goes.said small)),
-    )
+    pub finishes : {e : BodyError} {t : InBody S} → FailsToFinish remaining m e t → ⊥
+    finishes {t = t} fails =
+        let drains = fails.drains in
+        let same = drains.ended whole in
+        elim drains.answers [
+          | inl none ↦
+              never_fails m.body.coding m.body t.body (subst (TookWholeBody (body_rules m.body.coding)) (sym same) whole)
+              fails.why none
+          | inr many ↦ omega (
+            arith,
+            many.3,
+            ap length drains.went.handed,
+            ap (λ d. length (handed_of d)) same,
+            length-append (handed_of m.body) drains.payload,
+          )
+        ]

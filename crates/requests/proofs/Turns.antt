@@ -141,7 +141,7 @@ module _ {R W : Type 0} (remaining : R → Option (List ℕ)) (tells : W → Str
         turn = b.turns.turn;
       };
       once = omega (arith, b.once, a.reads.ends);
-      wrong = each_wrong a.reads place b.handed b.refuses b.wrong;
+      wrong = each_wrong a.reads place b.refuses b.wrong;
       ends = ends ending b.ends;
     }
       where

@@ -7,9 +7,12 @@ use Rattle.std.specs.declared.io.ErrorKind.TheVariants.{Interrupted, Other}
 use Rattle.redux_buffer.specs.Faults.{FaultAfterInterrupts, OnlyInterrupts}
 use Rattle.buffer_redux.specs.Buffered.{Buffered}
 use Rattle.buffer_redux.specs.StreamLog.{StreamLog}
-use Rattle.buffer_redux.specs.Unbuffer.{StreamWent, Unbuffered}
+use Rattle.buffer_redux.specs.Unbuffer.{StreamWent, Unbuffered, unbuffered}
 use Rattle.buffer_redux.specs.WriteParts.{WritesParts}
 use Rattle.buffer_redux.specs.declared.policy.StdPolicy.{StdPolicy}
+use Rattle.body_reader.specs.BodyReader.{Breaks, EndsEarly, IsBodyReader, NoPayload, TookWholeBody, handed_of}
+use Rattle.body_reader.specs.Coding.{IsBody, LeadsOpen}
+use Rattle.body_reader.specs.declared.either.Side.{Side}
 use Rattle.chunked.specs.declared.error.Malformed.{Malformed}
 use Rattle.codec.specs.Grammar.{IsOpen}
 use Rattle.codec.specs.PieceReader.{ReaderState, left_of, rest}
@@ -20,7 +23,7 @@ use Rattle.messages.specs.declared.head.ParsedHead.{ParsedHead}
 use Rattle.messages.specs.Heads.{IsHead, heads}
 use Rattle.messages.specs.declared.head.Heads.{Heads}
 use Rattle.messages.specs.Limits.{usual}
-use Rattle.messages.specs.Messages.{EachReadGave, Fails, GoesWrong, InBody, IsMessage, IsRest, Message, Onward, Unended, body_of}
+use Rattle.messages.specs.Messages.{EachReadGave, InBody, IsMessage, Message, WhyNone, body_error, body_rules, coding_of}
 use Rattle.messages.specs.Versions.{is_end}
 use Rattle.programs.specs.Streams.{AllSent, EndsOnce}
 use Rattle.requests.specs.declared.writing.Refusal.{Refusal}
@@ -46,11 +49,15 @@ abbrev pub IsTaken : Message → List ℕ → Type 0
 IsTaken m first = (is : IsMessage usual first m.0 m.1)
     × (is_large is.text.said.extent (length is.wire) (length m.1) ≡ false)
 
+-- what the stream has left, where this stands in a body
+abbrev pub stream_in : {S : Type 0} → InBody S → Unbuffered S
+stream_in b = unbuffered b.body.reader
+
 -- the whole body was taken, which isn't too large, with so much payload
 abbrev pub TakesWhole : {S : Type 0} → (S → Option (List ℕ)) → InBody S → Unbuffered S → ℕ → Type 0
-TakesWhole remaining b t len = (wire : List ℕ) × (payload : List ℕ) × StreamWent remaining b.stream wire t
-    × IsRest b.rest wire payload × (len ≡ length payload)
-    × (is_large b.said.extent (length (b.taken ++ wire)) (length payload) ≡ false)
+TakesWhole remaining b t len = (wire : List ℕ) × (payload : List ℕ) × StreamWent remaining (stream_in b) wire t
+    × IsBody (body_rules (coding_of usual b.said.extent)) wire payload × (len ≡ length payload)
+    × (is_large b.said.extent (length wire) (length payload) ≡ false)
 
 -- how often the stream gave nothing, though it was asked for something; and what it failed with
 abbrev pub ends_of : {S : Type 0} → Unbuffered S → ℕ
@@ -67,25 +74,24 @@ pub record ReadsSteadily {S : Type 0} (s t : Unbuffered S) : Type 0 where
 -- what the stream has left
 abbrev pub stream_at : {S : Type 0} → Place S → Unbuffered S
 stream_at (Before requests) = left_of requests
-stream_at (Inside body) = body.stream
+stream_at (Inside body) = stream_in body
 
 -- these are ends of lines alone, and so empty lines, which say nothing (RFC 9112, section 2.2)
 abbrev pub only_line_ends : List ℕ → Bool
 only_line_ends bytes = prefix_len is_end bytes == length bytes
 
 -- what comes is to be refused so: no head begins what is left, for that reason, or the stream ended in one; or the next byte of
--- the body is wrong, or the stream ended before that was complete, or what was taken of it is too large, with this payload; or
--- its head settles that, and nothing was taken behind that
-abbrev pub IsToBeRefused : {S : Type 0} → Unbuffered S → Place S → List ℕ → Refusal → Type 0
-IsToBeRefused s (Before requests) handed why = ((e : BadHead) × (heads usual).wrong (rest requests) e × (why ≡ refusal_of e))
+-- the body is wrong, or the stream ended before that was complete, or what was taken of it is too large; or its head settles
+-- that, and nothing was taken behind that
+abbrev pub IsToBeRefused : {S : Type 0} → Unbuffered S → Place S → Refusal → Type 0
+IsToBeRefused s (Before requests) why = ((e : BadHead) × (heads usual).wrong (rest requests) e × (why ≡ refusal_of e))
     ⊎ ((why ≡ BadRequest) × (ends_of s < ends_of (left_of requests)) × (only_line_ends (rest requests) ≡ false)
     × IsOpen (heads usual) (rest requests))
-IsToBeRefused s (Inside body) handed why = ((why ≡ BadRequest)
-    × (((name : Malformed) × GoesWrong body.rest body.stream.left name)
-    ⊎ ((ends_of s < ends_of body.stream) × (body.stream.left ≡ [])
-    × ((payload : List ℕ) → ¬ (IsRest body.rest [] payload)))))
-    ⊎ ((why ≡ LargeBody) × TurnsLarge body.said.extent body.calls.reads.latest body.taken handed)
-    ⊎ ((early_refusal (is_known body.head) body.said ≡ Some why) × (body.taken ≡ []))
+IsToBeRefused s (Inside body) why = ((why ≡ BadRequest)
+    × (((name : Side (Unit {0}) Malformed) × Breaks (body_rules body.body.coding) name body.body)
+    ⊎ ((ends_of s < ends_of (stream_in body)) × EndsEarly (body_rules body.body.coding) body.body)))
+    ⊎ ((why ≡ LargeBody) × TurnsLarge body)
+    ⊎ ((early_refusal (is_known body.head) body.said ≡ Some why) × (body.body.taken ≡ []))
 
 -- the stream ended, and nothing is left but empty lines, where a head would begin
 abbrev pub EndedBeforeHead : {S : Type 0} → Unbuffered S → Place S → Type 0
@@ -118,8 +124,9 @@ NoMoreAnswered messages taken refuses s place = IsClosed messages taken refuses 
 -- these bytes behind whole messages are none, or a head, and of the body that it says some with this payload
 abbrev pub IsPartTaken : {S : Type 0} → Place S → List ℕ → List ℕ → Type 0
 IsPartTaken (Before requests) taken handed = (taken ≡ []) × (handed ≡ [])
-IsPartTaken (Inside body) taken handed = (taken ≡ body.head ++ body.taken) × IsHead usual body.head body.said
-    × Onward (body_of usual body.said.extent) body.taken handed body.rest
+IsPartTaken (Inside body) taken handed = (taken ≡ body.head ++ body.body.taken) × (handed ≡ handed_of body.body)
+    × IsHead usual body.head body.said × (body.body.coding ≡ coding_of usual body.said.extent)
+    × IsBodyReader (body_rules body.body.coding) body.body
 
 -- behind interruptions a read failed so
 abbrev pub FailsInRead : {S : Type 0} → Unbuffered S → Error → Unbuffered S → Type 0
@@ -129,8 +136,9 @@ FailsInRead s e t = FaultAfterInterrupts (faults_of s) (faults_of t) e × (error
 -- and it goes on
 abbrev pub HadToAsk : {S : Type 0} → Place S → Type 0
 HadToAsk (Before requests) = IsOpen (heads usual) (rest requests)
-HadToAsk (Inside body) = (there : List ℕ) × (body.taken ++ body.stream.left ≡ there ++ body.stream.log.reads.latest)
-    × Unended (body_of usual body.said.extent) there
+HadToAsk (Inside body) = (there : List ℕ)
+    × (body.body.taken ++ body.body.reader.block.bytes ≡ there ++ body.body.reader.log.reads.latest)
+    × ((came : List ℕ) × LeadsOpen (body_rules body.body.coding) (body_rules body.body.coding).first came there)
 
 -- with the interruptions that were met, these are more than are counted
 abbrev pub IsMany : {S : Type 0} → ℕ → Unbuffered S → Unbuffered S → Type 0
@@ -138,30 +146,31 @@ IsMany count s t = 2 ^ 64 ≤ count + (length (faults_of t) - length (faults_of 
 
 -- so much payload was read: some, or the body ended, or the read was interrupted
 pub record ReadsSome {S : Type 0} (s : Unbuffered S) (n : ℕ) (b : InBody S) : Type 0 where
-  pub steady : ReadsSteadily s b.stream
-  pub more : IsRest b.rest [] [] ⊎ (length (faults_of s) < n + length (faults_of b.stream))
+  pub steady : ReadsSteadily s (stream_in b)
+  pub more : TookWholeBody (body_rules b.body.coding) b.body ⊎ (length (faults_of s) < n + length (faults_of (stream_in b)))
 
 -- why none was: none comes, and the read wasn't interrupted
-abbrev pub FailsToRead : {S : Type 0} → Unbuffered S → Untaken → InBody S → Type 0
-FailsToRead s (Body e) b = Fails s e b.stream b.rest × ((why : Error) → e ≡ Io why → error_kind why ≢ Interrupted)
+abbrev pub FailsToRead : {S : Type 0} → InBody S → Untaken → InBody S → Type 0
+FailsToRead s (Body e) b = (why : WhyNone) × (e ≡ body_error b.body.place why)
+    × NoPayload (body_rules b.body.coding) s.body why b.body × ((fault : Error) → e ≡ Io fault → error_kind fault ≢ Interrupted)
 FailsToRead s e b = ⊥
 
 -- so, and where that was asked for all had been sent; or that wasn't sent, and nothing asked for
-abbrev pub FailsOn : {S W : Type 0} → Unbuffered S → Untaken → InBody S → Buffered W StdPolicy → Type 0
-FailsOn s (Body e) b w' = FailsToRead s (Body e) b × ((b.stream.log ≡ s.log) ⊎ AllSent w')
-FailsOn s (Unsent e) b w' = EachReadGave s b.stream
+abbrev pub FailsOn : {S W : Type 0} → InBody S → Untaken → InBody S → Buffered W StdPolicy → Type 0
+FailsOn s (Body e) b w' = FailsToRead s (Body e) b × (((stream_in b).log ≡ (stream_in s).log) ⊎ AllSent w')
+FailsOn s (Unsent e) b w' = EachReadGave (stream_in s) (stream_in b)
 FailsOn s e b w' = ⊥
 
--- why a body isn't taken whole, of which this payload was: so, or it is wrong, or too large, or more than is counted
-abbrev pub TakeFails : {S W : Type 0} → Unbuffered S → List ℕ → Untaken → InBody S → Buffered W StdPolicy → Type 0
-TakeFails s handed (Body (Io e)) b w' =
-    EndsOnce s.log.reads b.stream.log.reads × FailsInRead s e b.stream × AllSent w' × HadToAsk (Inside b)
-TakeFails s handed (Body wrong) b w' =
-    EndsOnce s.log.reads b.stream.log.reads × OnlyInterrupts (faults_of s) (faults_of b.stream)
-    × IsToBeRefused s (Inside b) handed BadRequest
-TakeFails s handed Large b w' = ReadsSteadily s b.stream × TurnsLarge b.said.extent b.calls.reads.latest b.taken handed
-TakeFails s handed (Unsent e) b w' = ReadsSteadily s b.stream
-TakeFails s handed Many b w' = ReadsSteadily s b.stream × IsMany (length handed) s b.stream
+-- why a body isn't taken whole: so, or it is wrong, or too large, or more than is counted
+abbrev pub TakeFails : {S W : Type 0} → Unbuffered S → Untaken → InBody S → Buffered W StdPolicy → Type 0
+TakeFails s (Body (Io e)) b w' =
+    EndsOnce s.log.reads (stream_in b).log.reads × FailsInRead s e (stream_in b) × AllSent w' × HadToAsk (Inside b)
+TakeFails s (Body wrong) b w' =
+    EndsOnce s.log.reads (stream_in b).log.reads × OnlyInterrupts (faults_of s) (faults_of (stream_in b))
+    × IsToBeRefused s (Inside b) BadRequest
+TakeFails s Large b w' = ReadsSteadily s (stream_in b) × TurnsLarge b
+TakeFails s (Unsent e) b w' = ReadsSteadily s (stream_in b)
+TakeFails s Many b w' = ReadsSteadily s (stream_in b) × IsMany (length (handed_of b.body)) s (stream_in b)
 
 -- why the end of a body wasn't taken, for which nothing was asked
 abbrev pub unfinished : BodyError → Untaken
@@ -306,7 +315,7 @@ module _ {R W : Type 0} (remaining : R → Option (List ℕ)) (tells : W → Str
     pub refuses : Option Refusal
     pub turns : AnswersInTurns messages (s, w) taken place refuses (sending_of ending) (stream_at place, w')
     pub once : EndsOnce s.log.reads (stream_at place).log.reads
-    pub wrong : IfSome refuses (IsToBeRefused s place handed)
+    pub wrong : IfSome refuses (IsToBeRefused s place)
     pub ends : RunEndsBy s messages taken handed refuses place w' ending
 
   -- a run: where sending failed, it returns why, and nothing was taken that comes behind what failed; or all was sent

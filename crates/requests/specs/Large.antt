@@ -2,8 +2,13 @@
 use Rattle.std.specs.Prelude.{◌≡◌, ℕ, ◌+◌, ◌*◌, ◌≤◌, ◌⊎◌, ◌||◌, nat_lt, Bool, false, List, [], ◌++◌, length, IsTrue}
 use Rattle.messages.specs.declared.head.Extent.{Extent}
 use Rattle.messages.specs.declared.head.Extent.TheVariants.{Sized, Chunked}
+use Rattle.body_reader.specs.BodyReader.{IsBodyReader, handed_of}
+use Rattle.body_reader.specs.Coding.{Grammar, Leads, LeadsOpen, heeded}
+use Rattle.body_reader.specs.declared.either.Side.{Side}
+use Rattle.chunked.specs.declared.error.Malformed.{Malformed}
+use Rattle.chunked.specs.declared.place.Place.{Place}
 use Rattle.messages.specs.Limits.{usual}
-use Rattle.messages.specs.Messages.{Backward, BeginsRest, Onward, Rest, body_of}
+use Rattle.messages.specs.Messages.{InBody, Reader, body_rules, coding_of}
 
 -- the most payload, of 2 ^ 40 bytes
 abbrev pub max_payload : ℕ
@@ -15,19 +20,22 @@ abbrev pub is_large : Extent → ℕ → ℕ → Bool
 is_large (Sized all) taken payload = nat_lt max_payload payload || nat_lt max_payload all
 is_large Chunked taken payload = nat_lt max_payload payload || nat_lt (16384 + 6 * payload) taken
 
--- it wasn't before the last read, which handed this out, or nothing: each body that begins with what had been taken then has the
--- payload before that in front; or nothing was read
-abbrev pub IsNewlyLarge : Extent → List ℕ → List ℕ → List ℕ → Type 0
-IsNewlyLarge extent latest taken handed = ((taken ≡ []) × (handed ≡ []))
-    ⊎ ((before : List ℕ) × (wire : List ℕ) × (payload : List ℕ) × (last : List ℕ) × (rest : Rest) × (taken ≡ before ++ wire)
-    × (handed ≡ payload ++ last) × ((last ≡ []) ⊎ ((last ≡ latest) × (length last ≤ 4096)))
-    × Backward (body_of usual extent) before payload rest
-    × (is_large extent (length before) (length payload) ≡ false))
+-- it wasn't where the reader stood before the last read, which handed this out, or nothing; or nothing was read
+abbrev pub IsNewlyLarge : {S : Type 0} → InBody S → Type 0
+IsNewlyLarge {S} b = ((b.body.taken ≡ []) × (handed_of b.body ≡ []))
+    ⊎ ((before : Reader S) × (wire : List ℕ) × (last : List ℕ) × IsBodyReader (body_rules b.body.coding) before
+    × (b.body.taken ≡ before.taken ++ wire) × (handed_of b.body ≡ handed_of before ++ last)
+    × ((last ≡ []) ⊎ ((last ≡ b.body.calls.reads.latest) × (length last ≤ 4096)))
+    × (is_large b.said.extent (length before.taken) (length (handed_of before)) ≡ false))
 
--- what was taken of a body is too large with this payload, as soon as that was read
-pub record TurnsLarge (extent : Extent) (latest taken handed : List ℕ) : Type 0 where
-  pub large : IsTrue (is_large extent (length taken) (length handed))
-  pub fresh : IsNewlyLarge extent latest taken handed
+-- what was taken of a body is too large with the payload in it, as soon as that was read
+pub record TurnsLarge {S : Type 0} (b : InBody S) : Type 0 where
+  pub large : IsTrue (is_large b.said.extent (length b.body.taken) (length (handed_of b.body)))
+  pub fresh : IsNewlyLarge b
+
+-- the coding of a body under the usual limits
+abbrev pub usual_rules : Extent → Grammar (Side ℕ Place) (Side (Unit {0}) Malformed)
+usual_rules extent = body_rules (coding_of usual extent)
 
 -- these bytes begin a body, which goes on behind them, and without the last of them, which are no payload, they aren't too large
 pub record IsAwaited (extent : Extent) (bytes : List ℕ) : Type 0 where
@@ -35,7 +43,7 @@ pub record IsAwaited (extent : Extent) (bytes : List ℕ) : Type 0 where
   pub behind : List ℕ
   pub equal : bytes ≡ front ++ behind
   pub payload : List ℕ
-  pub rest : Rest
-  pub onward : Onward (body_of usual extent) front payload rest
+  pub place : Side ℕ Place
+  pub leads : Leads (usual_rules extent) (usual_rules extent).first front payload place (heeded (usual_rules extent) behind)
   pub small : is_large extent (length front) (length payload) ≡ false
-  pub more : BeginsRest rest [] behind
+  pub more : LeadsOpen (usual_rules extent) place [] behind

@@ -25,9 +25,9 @@ ghost use Rattle.codec.specs.PieceReader.{IsSettled, ReaderState, left_of};
 ghost use Rattle.messages.specs.declared.head.Heads.{Heads};
 ghost use Rattle.messages.specs.Heads.{heads};
 ghost use Rattle.messages.specs.Limits.{usual};
-ghost use Rattle.messages.specs.Messages.{Begun, body_of, stop_answer};
+ghost use Rattle.messages.specs.Messages.{Begun, Enters, stop_answer};
 ghost use Rattle.requests.specs.Sending.{IsHeld, SendsUnless, WritesOnlyHeld, WritesPromptly};
-ghost use Rattle.requests.specs.Answers.{AnswersTurn, CallsFor, EndsSent, EndsUntaken, ServesRequests, ending_of, only_line_ends, sending_of};
+ghost use Rattle.requests.specs.Answers.{AnswersTurn, CallsFor, EndsSent, EndsUntaken, ServesRequests, ending_of, only_line_ends, sending_of, stream_in};
 ghost use Rattle.requests.specs.Texts.{early_refusal, is_known};
 
 use crate::taking::{Untaken, take_whole};
@@ -230,12 +230,10 @@ fn answer_body<R: TellRead, W: TellWrite>(
     writer: &mut BufWriter<W>,
 ) -> Result<Requests<R>, (Place<R>, Ending)>
     requires held { IsHeld writer.old }
-    requires first { body.taken ≡ [] }
-    requires limits { body.limits ≡ usual }
-    requires rest { body.rest ≡ body_of usual body.said.extent }
+    requires enters { Enters usual body }
     ensures limits { IfOk result (λ next. next.decoder.0 ≡ usual) }
     ensures turns { (s : ReaderState R Heads) (w : Buffered W StdPolicy) → Begun R.remaining s body
-        → WritesPromptly W.log W.trace (IsOpen (heads usual)) (left_of s, w) (Ok tt) (body.stream, writer.old)
+        → WritesPromptly W.log W.trace (IsOpen (heads usual)) (left_of s, w) (Ok tt) (stream_in body, writer.old)
         → AnswersTurn R.remaining W.log W.trace (left_of s) w result writer.new }
 {
     let said = body.said();
@@ -257,13 +255,11 @@ fn answer_called<R: TellRead, W: TellWrite>(
     writer: &mut BufWriter<W>,
 ) -> Result<Requests<R>, (Place<R>, Ending)>
     requires held { IsHeld writer.old }
-    requires first { body.taken ≡ [] }
-    requires limits { body.limits ≡ usual }
-    requires rest { body.rest ≡ body_of usual body.said.extent }
+    requires enters { Enters usual body }
     requires open { early_refusal (is_known body.head) body.said ≡ None }
     ensures limits { IfOk result (λ next. next.decoder.0 ≡ usual) }
     ensures turns { (s : ReaderState R Heads) (w : Buffered W StdPolicy) → Begun R.remaining s body
-        → CallsFor R.remaining W.log W.trace body.head body.said (left_of s, w) (Ok tt) (body.stream, writer.old)
+        → CallsFor R.remaining W.log W.trace body.head body.said (left_of s, w) (Ok tt) (stream_in body, writer.old)
         → AnswersTurn R.remaining W.log W.trace (left_of s) w result writer.new }
 {
     let said = body.said();

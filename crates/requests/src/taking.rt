@@ -1,11 +1,14 @@
 //! Bodies are taken whole, and their payload counted.
-ghost use Rattle.std.specs.Prelude.{◌≡◌, ℕ, ◌<◌, ◌≤◌, false, List, [], length, take, IfErr, IfOk, MatchResult, Ok, OnOk};
+ghost use Rattle.std.specs.Prelude.{◌≡◌, ℕ, ◌<◌, ◌≤◌, ◌⊎◌, false, List, [], length, take, IfErr, IfOk, MatchResult, Ok, OnOk};
 ghost use Rattle.buffer_redux.specs.Asking.{AskedWhere};
 ghost use Rattle.body_reader.specs.Between.{handed_out};
+ghost use Rattle.body_reader.specs.BodyReader.{IsBodyReader, TookWholeBody, handed_of};
+ghost use Rattle.body_reader.specs.Coding.{LeadsOpen};
 ghost use Rattle.codec.specs.PieceReader.{left_of};
 ghost use Rattle.messages.specs.Limits.{usual};
-ghost use Rattle.messages.specs.Messages.{AskedIn, AsksForMore, BeginsRest, InsideGoes, IsRest, body_of};
-ghost use Rattle.requests.specs.Answers.{FailsOn, FailsToRead, ReadsSome, ReadsSteadily, TakeFails, TakesWhole, sent_till, sent_with, unfinished};
+ghost use Rattle.messages.specs.Messages.{Enters, InsideGoes, body_rules};
+ghost use Rattle.requests.specs.Answers.{FailsOn, FailsToRead, HadToAsk, ReadsSome, ReadsSteadily, TakeFails, TakesWhole, sent_till, sent_with, stream_in, unfinished};
+ghost use Rattle.requests.specs.declared.Place.TheVariants.{Inside};
 ghost use Rattle.requests.specs.Large.{IsAwaited, is_large};
 ghost use Rattle.requests.specs.Sending.{IsHeld, SendsUnless, WritesPromptly};
 
@@ -36,19 +39,17 @@ pub fn take_whole<R: TellRead, W: TellWrite>(
     writer: &mut BufWriter<W>,
 ) -> Result<(u64, Requests<R>), (Body<R>, Untaken)>
     requires held { IsHeld writer.old }
-    requires first { body.taken ≡ [] }
-    requires limits { body.limits ≡ usual }
-    requires rest { body.rest ≡ body_of usual body.said.extent }
+    requires enters { Enters usual body }
     ensures limits { IfOk result (λ r. r.1.decoder.0 ≡ usual) }
     ensures whole { IfOk result (λ r. TakesWhole R.remaining body (left_of r.1) r.0) }
-    ensures steady { IfOk result (λ r. ReadsSteadily body.stream (left_of r.1)) }
+    ensures steady { IfOk result (λ r. ReadsSteadily (stream_in body) (left_of r.1)) }
     ensures part { IfErr result (λ e. (handed : List ℕ) × InsideGoes R.remaining body handed e.0
-        × TakeFails body.stream handed e.1 e.0 writer.new) }
+        × TakeFails (stream_in body) e.1 e.0 writer.new) }
     ensures writes { MatchResult result
-        (λ r. WritesPromptly W.log W.trace (IsAwaited body.said.extent) (body.stream, writer.old) (Ok tt)
+        (λ r. WritesPromptly W.log W.trace (IsAwaited body.said.extent) (stream_in body, writer.old) (Ok tt)
         (left_of r.1, writer.new))
-        (λ e. WritesPromptly W.log W.trace (IsAwaited body.said.extent) (body.stream, writer.old) (sent_till e.1)
-        (e.0.stream, writer.new)) }
+        (λ e. WritesPromptly W.log W.trace (IsAwaited body.said.extent) (stream_in body, writer.old) (sent_till e.1)
+        (stream_in e.0, writer.new)) }
 {
     let mut body = body;
     match payload_len(&mut body, writer) {
@@ -77,16 +78,15 @@ fn payload_len<R: TellRead, W: TellWrite>(
     writer: &mut BufWriter<W>,
 ) -> Result<u64, Untaken>
     requires held { IsHeld writer.old }
-    requires first { body.old.taken ≡ [] }
-    requires rest { body.old.rest ≡ body_of usual body.old.said.extent }
-    ensures goes { (payload : List ℕ) × InsideGoes R.remaining body.old payload body.new
-        × MatchResult result (λ len. len ≡ length payload)
-        (λ e. TakeFails body.old.stream payload e body.new writer.new) }
-    ensures ended { OnOk result (IsRest body.new.rest [] []) }
-    ensures small { IfOk result (λ len. is_large body.new.said.extent (length body.new.taken) len ≡ false) }
-    ensures steady { OnOk result (ReadsSteadily body.old.stream body.new.stream) }
-    ensures writes { WritesPromptly W.log W.trace (IsAwaited body.old.said.extent) (body.old.stream, writer.old)
-        (sent_with result) (body.new.stream, writer.new) }
+    requires enters { Enters usual body.old }
+    ensures goes { (payload : List ℕ) × InsideGoes R.remaining body.old payload body.new }
+    ensures many { IfOk result (λ len. len ≡ length (handed_of body.new.body)) }
+    ensures fails { IfErr result (λ e. TakeFails (stream_in body.old) e body.new writer.new) }
+    ensures ended { OnOk result (TookWholeBody (body_rules body.new.body.coding) body.new.body) }
+    ensures small { IfOk result (λ len. is_large body.new.said.extent (length body.new.body.taken) len ≡ false) }
+    ensures steady { OnOk result (ReadsSteadily (stream_in body.old) (stream_in body.new)) }
+    ensures writes { WritesPromptly W.log W.trace (IsAwaited body.old.said.extent) (stream_in body.old, writer.old)
+        (sent_with result) (stream_in body.new, writer.new) }
 {
     let extent = body.said().extent;
     let mut out = [0; 4096];
@@ -117,14 +117,15 @@ fn read_on<R: TellRead, W: TellWrite>(
 ) -> Result<usize, Untaken>
     requires some { 0 < length out.old }
     requires held { IsHeld writer.old }
+    requires whole { IsBodyReader (body_rules body.old.body.coding) body.old.body }
     ensures bound { IfOk result (λ n. n ≤ length out.new) }
-    ensures noted { IfOk result (λ n. 0 < n → body.new.calls.reads.latest ≡ take n out.new) }
+    ensures noted { IfOk result (λ n. 0 < n → body.new.body.calls.reads.latest ≡ take n out.new) }
     ensures goes { InsideGoes R.remaining body.old (handed_out out.new result) body.new }
-    ensures reads { IfOk result (λ n. ReadsSome body.old.stream n body.new) }
-    ensures fails { IfErr result (λ e. FailsOn body.old.stream e body.new writer.new) }
-    ensures asked { AskedWhere (BeginsRest body.old.rest []) body.old.stream body.new.stream }
-    ensures writes { WritesPromptly W.log W.trace (BeginsRest body.old.rest []) (body.old.stream, writer.old)
-        (sent_with result) (body.new.stream, writer.new) }
+    ensures reads { IfOk result (λ n. ReadsSome (stream_in body.old) n body.new) }
+    ensures fails { IfErr result (λ e. FailsOn body.old e body.new writer.new) }
+    ensures asked { ((stream_in body.new).log ≡ (stream_in body.old).log) ⊎ HadToAsk (Inside body.new) }
+    ensures writes { WritesPromptly W.log W.trace (LeadsOpen (body_rules body.old.body.coding) body.old.body.place [])
+        (stream_in body.old, writer.old) (sent_with result) (stream_in body.new, writer.new) }
 {
     let count = body.read_buffered(out);
     if count > 0 {
@@ -143,13 +144,14 @@ fn read_on<R: TellRead, W: TellWrite>(
 fn read<R: TellRead>(body: &mut Body<R>, out: &mut [u8]) -> Result<usize, Untaken>
     requires { 0 < length out.old }
     ensures bound { IfOk result (λ n. n ≤ length out.new) }
-    ensures noted { IfOk result (λ n. 0 < n → body.new.calls.reads.latest ≡ take n out.new) }
+    ensures noted { IfOk result (λ n. 0 < n → body.new.body.calls.reads.latest ≡ take n out.new) }
     ensures goes { InsideGoes R.remaining body.old (handed_out out.new result) body.new }
-    ensures reads { IfOk result (λ n. ReadsSome body.old.stream n body.new) }
-    ensures fails { IfErr result (λ e. FailsToRead body.old.stream e body.new) }
-    ensures asked { AskedWhere (AskedIn body.old.rest (length out.new) body.new.stream.log.reads.offer) body.old.stream
-        body.new.stream }
-    ensures asks { AsksForMore body.old.stream body.old.rest out.new body.new.stream }
+    ensures reads { IfOk result (λ n. ReadsSome (stream_in body.old) n body.new) }
+    ensures fails { IfErr result (λ e. FailsToRead body.old e body.new) }
+    ensures asked { AskedWhere (LeadsOpen (body_rules body.old.body.coding) body.old.body.place []) (stream_in body.old)
+        (stream_in body.new) }
+    ensures asks { (stream_in body.old).left ≡ [] → ¬ (TookWholeBody (body_rules body.old.body.coding) body.old.body)
+        → (stream_in body.old).log.reads.asks < (stream_in body.new).log.reads.asks }
 {
     match body.read(out) {
         Ok(count) => Ok(count),
@@ -170,7 +172,7 @@ fn send_unless_shown<R: TellRead, W: TellWrite>(
     writer: &mut BufWriter<W>,
 ) -> io::Result<()>
     requires held { IsHeld writer.old }
-    ensures { SendsUnless W.log W.trace (0 < length body.now.stream.left) writer.old result writer.new }
+    ensures { SendsUnless W.log W.trace (0 < length (stream_in body.now).left) writer.old result writer.new }
 {
     if !body.buffered().is_empty() {
         return Ok(());

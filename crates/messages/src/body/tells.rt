@@ -2,8 +2,11 @@
 ghost use Rattle.std.specs.Prelude.{◌≡◌, None};
 ghost use Rattle.std.specs.Io.{ReadsAtMost};
 ghost use Rattle.std.specs.Io.KnownBytes.{ReadConsumes};
-ghost use Rattle.buffer_redux.specs.StreamLog.{after_read};
-ghost use Rattle.messages.specs.Messages.{ReadsAsIo};
+ghost use Rattle.buffer_redux.specs.Policy.{std_read_rules};
+ghost use Rattle.buffer_redux.specs.StreamLog.{StreamLog, after_read};
+ghost use Rattle.body_reader.specs.Between.{handed_out};
+ghost use Rattle.body_reader.specs.BodyReader.{ReadsAsIo};
+ghost use Rattle.messages.specs.Messages.{InsideGoes, body_rules};
 
 use crate::body::Body;
 use buffer_redux::tell::{Tell, TellRead};
@@ -11,7 +14,7 @@ use std::io;
 use std::io::Read;
 
 impl<R: Tell> Tell for Body<R> {
-    ghost log = { λ b. b.calls };
+    ghost log = { λ b. b.body.calls };
 }
 
 /// Payload, as [`read`](Body::read) hands it out; for an empty slice nothing is done. An error is the stream's own, or of the
@@ -19,9 +22,11 @@ impl<R: Tell> Tell for Body<R> {
 impl<R: TellRead> Read for Body<R> {
     fn read(&mut self, out: &mut [u8]) -> io::Result<usize>
         ensures bound { ReadsAtMost result out.new }
-        ensures told { self.new.calls ≡ after_read self.old.calls out.new result }
+        ensures told { self.new.body.calls ≡ after_read self.old.body.calls out.new result }
         ensures bytes { ReadConsumes None None result out.new }
-        ensures read { ReadsAsIo R.remaining self.old out.new result self.new }
+        ensures goes { InsideGoes R.remaining self.old (handed_out out.new result) self.new }
+        ensures read { (untold : StreamLog) × ReadsAsIo R.remaining std_read_rules (body_rules self.old.body.coding) self.old.body
+            out.new result (record self.new.body { calls = untold }) }
     {
         self.read_told(out)
     }
@@ -31,9 +36,11 @@ impl<R: TellRead> Read for Body<R> {
 impl<R: TellRead> TellRead for Body<R> {
     fn read_told(&mut self, out: &mut [u8]) -> io::Result<usize>
         ensures bound { ReadsAtMost result out.new }
-        ensures told { self.new.calls ≡ after_read self.old.calls out.new result }
+        ensures told { self.new.body.calls ≡ after_read self.old.body.calls out.new result }
         ensures bytes { ReadConsumes None None result out.new }
-        ensures read { ReadsAsIo R.remaining self.old out.new result self.new }
+        ensures goes { InsideGoes R.remaining self.old (handed_out out.new result) self.new }
+        ensures read { (untold : StreamLog) × ReadsAsIo R.remaining std_read_rules (body_rules self.old.body.coding) self.old.body
+            out.new result (record self.new.body { calls = untold }) }
     {
         let _ = self.reader.get_ref();
         self.reader.read_told(out)

@@ -1,7 +1,7 @@
 -- What the head settles is told at once; else the call is written while nobody is asked, and where either fails no byte of the
 -- body was taken.
 use Rattle.std.proofs.Common.{◌≡◌, ◌∙◌, ap, Bool, true, false, ◌&&◌, if◌then◌else◌, [], ◌++◌, Option, None, Some, Err, Ok, arith, refl, inl, inr, subst, sym}
-use Rattle.requests.proofs.Names.{All-nil, AwaitsBody, Begun-went, called, early_refusal, Inside, InsideGoes-none, is_called, is_known, left_of, MayFollow, Refusal, RunsToLast, SendsForRoom, Unknown, Unmet, Unsent, waits}
+use Rattle.requests.proofs.Names.{All-nil, AwaitsBody, Begun-went, called, early_refusal, handed_of, Inside, InsideGoes-none, is_called, is_known, left_of, MayFollow, Refusal, RunsToLast, SendsForRoom, stream_in, Unknown, Unmet, Unsent, waits}
 use Rattle.requests.proofs.Answering.{RunsToLast-one, RunsToLast-refused}
 use Rattle.requests.proofs.Reading.{begun_steady, is_part, part_went}
 use Rattle.requests.proofs.Sending.{PutsText-none, PutsText-put, WritesPromptly-none}
@@ -61,9 +61,9 @@ returns-in-Ok-clause-turns g c = λ s w begun writes.
 pub returns-in-Err-clause-turns : goal.returns-in-Err-clause-turns
 returns-in-Err-clause-turns g c = λ s w begun writes.
     let b = c.args.body in
-    let none = InsideGoes-none g.R.TellRead.remaining b in
-    RunsToLast-one g.met.W.TellWrite.trace_none (b.head ++ none.takes.wire) [] (Inside b) (is_part begun c.requires.limits none)
-    (omega (arith, (begun_steady begun).ends)) [] None tt (Unsent c.in-Err.e) (
+    let none = InsideGoes-none g.R.TellRead.remaining b c.requires.enters.whole in
+    RunsToLast-one g.met.W.TellWrite.trace_none (b.head ++ none.went.wire) (handed_of b.body) (Inside b)
+    (is_part begun c.requires.enters none) (omega (arith, (begun_steady begun).ends)) [] None tt (Unsent c.in-Err.e) (
       part_went begun none,
       inl (
         refl,
@@ -82,17 +82,17 @@ pub returns-in-Some-clause-turns : goal.returns-in-Some-clause-turns
 returns-in-Some-clause-turns g c = λ s w begun writes.
     let b = c.args.body in
     let why = c.in-Some.why in
-    let none = InsideGoes-none g.R.TellRead.remaining b in
+    let none = InsideGoes-none g.R.TellRead.remaining b c.requires.enters.whole in
     let is = sym (settled g (goal.at.returns-in-Some-clause-turns g c).After-early_refusal) ∙ c.in-Some.is in
     let front : called (is_called (is_known b.head) b.said) ≡ [] =
     ap called (no_call (waits b.said) (is_known b.head) b.said.met why is) in
     subst (λ x. RunsToLast g.R.TellRead.remaining g.W.Tell.log g.W.TellWrite.trace (left_of s) w (Inside b) x c.refuse.new.writer)
     (sym c.ending_of-ending.ensures)
-    (RunsToLast-refused g.met.W.TellWrite.trace_none (b.head ++ none.takes.wire) [] (Inside b)
-    (is_part begun c.requires.limits none) (omega (arith, (begun_steady begun).ends)) why c.refuse.result (
+    (RunsToLast-refused g.met.W.TellWrite.trace_none (b.head ++ none.went.wire) (handed_of b.body) (Inside b)
+    (is_part begun c.requires.enters none) (omega (arith, (begun_steady begun).ends)) why c.refuse.result (
       part_went begun none,
       inr (
-        (b.stream, c.args.writer.now),
+        (stream_in b, c.args.writer.now),
         record {
           went = Begun-went g.R.TellRead.remaining s b begun;
           before = c.args.writer.now;
@@ -101,8 +101,8 @@ returns-in-Some-clause-turns g c = λ s w begun writes.
         },
         (
           c.args.writer.now,
-          WritesPromptly-none (AwaitsBody b.head b.said) g.met.W.TellWrite.trace_none (b.stream, c.args.writer.now),
+          WritesPromptly-none (AwaitsBody b.head b.said) g.met.W.TellWrite.trace_none (stream_in b, c.args.writer.now),
           c.refuse.ensures,
         ),
       ),
-    ) (inr (inr (is, c.requires.first))) (begun_steady begun).faults)
+    ) (inr (inr (is, ap (λ x. x.body.taken) c.requires.enters.is))) (begun_steady begun).faults)

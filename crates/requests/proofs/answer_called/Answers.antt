@@ -1,8 +1,8 @@
 -- A message that was taken whole is answered behind the call; of another a part is all that went.
-use Rattle.std.proofs.Common.{◌≡◌, ◌⊎◌, All, Bool, List, ℕ, None, [], ◌∷◌, true, false, inr, ap, sym, subst, ◌∙◌, refl, inl, arith}
+use Rattle.std.proofs.Common.{◌≡◌, ◌⊎◌, All, Bool, List, ℕ, None, [], ◌∷◌, true, false, inr, ap, sym, ◌∙◌, refl, inl, arith}
 use Rattle.requests.proofs.Names.{All-cons, All-nil, Before, ends_of, is_known, IsClosed, IsHead, left_of, MayFollow, Over, ParsedHead, Place, stream_at, Unbuffered, Unsent, usual}
 use Rattle.requests.proofs.Answering.{RunsToLast-one, no_turn, one_answered, torn_answered}
-use Rattle.requests.proofs.Reading.{Closes-one, begun_steady, no_shorter, steadily}
+use Rattle.requests.proofs.Reading.{Closes-one, begun_head, begun_steady, no_shorter, steadily}
 use Rattle.requests.proofs.answer_called.Goals as goal
 
 -- another may follow a message, or none does
@@ -16,7 +16,7 @@ follows s place {said = said} false is same ends = inr (Closes-one (said, is, sa
 pub returns-then-said-clause-turns : goal.returns-then-said-clause-turns
 returns-then-said-clause-turns g c = λ s w begun call.
     let b = c.args.body in
-    let head = subst (λ l. IsHead l b.head b.said) c.requires.limits begun.is in
+    let head = begun_head begun c.requires.enters in
     let whole = c.in-Ok.ensures.whole in
     let reads = steadily (begun_steady begun) c.in-Ok.ensures.steady in
     let keeps = sym (ap (λ x. x.keeps) c.said-said.ensures.value) ∙ c.if-said.true in (
@@ -24,7 +24,7 @@ returns-then-said-clause-turns g c = λ s w begun call.
         messages = (b.head, whole.1) ∷ [];
         each = (
           (left_of c.in-Ok.requests, c.answer_whole.new.writer),
-          one_answered g.met.W.TellWrite.trace_none g.met.W.TellWrite.trace_joins c.requires.open begun c.requires.limits whole
+          one_answered g.met.W.TellWrite.trace_none g.met.W.TellWrite.trace_joins c.requires.open begun c.requires.enters whole
               c.said-said.ensures.value (c.is_known-known.ensures ∙ ap is_known c.head.ensures) call c.in-Ok.ensures.writes
               c.in-Ok-answer_whole.ensures,
           no_turn g.met.W.TellWrite.trace_none (left_of c.in-Ok.requests, c.answer_whole.new.writer),
@@ -38,10 +38,10 @@ returns-then-said-clause-turns g c = λ s w begun call.
 pub returns-else-said-clause-turns : goal.returns-else-said-clause-turns
 returns-else-said-clause-turns g c = λ s w begun call.
     let b = c.args.body in
-    let head = subst (λ l. IsHead l b.head b.said) c.requires.limits begun.is in
+    let head = begun_head begun c.requires.enters in
     let whole = c.in-Ok.ensures.whole in
     let reads = steadily (begun_steady begun) c.in-Ok.ensures.steady in
-    let one = one_answered g.met.W.TellWrite.trace_none g.met.W.TellWrite.trace_joins c.requires.open begun c.requires.limits
+    let one = one_answered g.met.W.TellWrite.trace_none g.met.W.TellWrite.trace_joins c.requires.open begun c.requires.enters
     whole c.said-said.ensures.value (c.is_known-known.ensures ∙ ap is_known c.head.ensures) call c.in-Ok.ensures.writes
     c.in-Ok-answer_whole.ensures in
     RunsToLast-one g.met.W.TellWrite.trace_none [] [] (Before c.in-Ok.requests) (refl, refl) (omega (arith, reads.ends))
@@ -58,11 +58,11 @@ returns-else-said-clause-turns g c = λ s w begun call.
 pub returns-in-Err-answer_whole-clause-turns : goal.returns-in-Err-answer_whole-clause-turns
 returns-in-Err-answer_whole-clause-turns g c = λ s w begun call.
     let b = c.args.body in
-    let head = subst (λ l. IsHead l b.head b.said) c.requires.limits begun.is in
+    let head = begun_head begun c.requires.enters in
     let reads = steadily (begun_steady begun) c.in-Ok.ensures.steady in
-    let one = one_answered g.met.W.TellWrite.trace_none g.met.W.TellWrite.trace_joins c.requires.open begun c.requires.limits
-    c.in-Ok.ensures.whole c.said-said.ensures.value (c.is_known-known.ensures ∙ ap is_known c.head.ensures) call c.in-Ok.ensures.writes
-    c.in-Err-answer_whole.ensures in
+    let one = one_answered g.met.W.TellWrite.trace_none g.met.W.TellWrite.trace_joins c.requires.open begun c.requires.enters
+    c.in-Ok.ensures.whole c.said-said.ensures.value (c.is_known-known.ensures ∙ ap is_known c.head.ensures) call
+    c.in-Ok.ensures.writes c.in-Err-answer_whole.ensures in
     RunsToLast-one g.met.W.TellWrite.trace_none [] [] (Before c.in-Ok.requests) (refl, refl) (omega (arith, reads.ends))
     ((b.head, c.in-Ok.ensures.whole.1) ∷ []) None tt (Unsent c.in-Err-answer_whole.e) (one, refl, refl)
     (reads.faults, follows (left_of s) (Before c.in-Ok.requests) b.said.keeps head refl reads.ends)
@@ -70,5 +70,5 @@ returns-in-Err-answer_whole-clause-turns g c = λ s w begun call.
 pub returns-in-Err-clause-turns : goal.returns-in-Err-clause-turns
 returns-in-Err-clause-turns g c = λ s w begun call.
     let part = c.in-Err.ensures.part in
-    torn_answered g.met.W.TellWrite.trace_none g.met.W.TellWrite.trace_joins c.requires.open begun c.requires.limits part.1 call
+    torn_answered g.met.W.TellWrite.trace_none g.met.W.TellWrite.trace_joins c.requires.open begun c.requires.enters part.1 call
     c.in-Err.why c.unended-ending.result part.2 c.in-Err.ensures.writes c.unended-ending.ensures

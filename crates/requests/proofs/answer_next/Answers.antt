@@ -3,7 +3,7 @@ use Rattle.std.proofs.Common.{true, [], Ok, None, sym, subst, inl, inr, refl, ar
 use Rattle.requests.proofs.Names.{All-nil, Before, heads, IsOpen, left_of, MayFollow, StreamWent-none, Unsent, usual, WritesPromptly}
 use Rattle.requests.proofs.Answering.{RunsToLast-one}
 use Rattle.requests.proofs.Coming.{comes, open_where, usually}
-use Rattle.requests.proofs.Reading.{begun_whole, none_met}
+use Rattle.requests.proofs.Reading.{begun_enters, none_met}
 use Rattle.requests.proofs.Sending.{WritesPromptly-unsent}
 use Rattle.requests.proofs.answer_next.Goals as goal
 
@@ -13,8 +13,8 @@ answer_body-requires-clause-held g c =
     c.send_to_ask.new.writer c.in-Ok.ensures _ c.in-Ok-next.ensures.next.behind
     (usually c.requires.limits c.in-Ok-next.ensures.next.next)).writes.puts.held c.requires.held
 
-pub answer_body-requires-clause-rest : goal.answer_body-requires-clause-rest
-answer_body-requires-clause-rest g c = begun_whole c.in-Ok-next.ensures.next c.requires.limits
+pub answer_body-requires-clause-enters : goal.answer_body-requires-clause-enters
+answer_body-requires-clause-enters g c = begun_enters c.in-Ok-next.ensures.next c.requires.limits
 
 pub returns-in-Ok-next-clause-turns : goal.returns-in-Ok-next-clause-turns
 returns-in-Ok-next-clause-turns g c =
@@ -22,8 +22,8 @@ returns-in-Ok-next-clause-turns g c =
     let came = comes g.met.W.TellWrite.trace_none c.args.requests c.args.writer.now
     c.send_to_ask.new.writer c.in-Ok.ensures _ begun.behind (usually c.requires.limits begun.next) in
     c.answer_body.ensures.turns c.args.requests c.args.writer.now begun
-    (subst (λ u. WritesPromptly g.W.Tell.log g.W.TellWrite.trace (IsOpen (heads usual)) (left_of c.args.requests, c.args.writer.now)
-    (Ok tt) (u, c.send_to_ask.new.writer)) (sym begun.stream) came.writes)
+    (subst (λ u. WritesPromptly g.W.Tell.log g.W.TellWrite.trace (IsOpen (heads usual))
+    (left_of c.args.requests, c.args.writer.now) (Ok tt) (u, c.send_to_ask.new.writer)) (sym begun.stream) came.writes)
 
 pub returns-in-Err-next-clause-turns : goal.returns-in-Err-next-clause-turns
 returns-in-Err-next-clause-turns g c =

@@ -5,9 +5,8 @@ use Rattle.messages.specs.MessagesLaws.{MessagesWent-joins, MessagesWent-one, on
 use Rattle.messages.proofs.laws.no_byte_between.Goals as goal
 
 pub returns-clause-one : goal.returns-clause-one
-returns-clause-one g c = λ s b m handed begun takes ends.
-    MessagesWent-one g.R.TellRead.remaining s b m handed ends.wire ends.payload (left_of c.args.requests.now) begun takes
-    ends.went ends.is
+returns-clause-one g c = λ s b m handed begun goes ends.
+    MessagesWent-one g.R.TellRead.remaining s b m handed c.args.requests.now begun goes.went ends
 
 pub returns-clause-many : goal.returns-clause-many
 returns-clause-many g c = λ limits s m messages more.

@@ -1,18 +1,23 @@
 -- The payload of each read joins what came before, which wasn't too large before the last read.
-use Rattle.std.proofs.Common.{◌≡◌, ◌∙◌, ℕ, zero, suc, ◌+◌, ◌<◌, ◌≤◌, ◌⊎◌, List, [], ◌++◌, length, take, Option, Ok, Result, false, ap, arith, inl, inr, length-append, refl, subst, sym}
-use Rattle.requests.proofs.Names.{BeginsRest, body_of, Buffered, Error, InBody, InsideGoes, InsideGoes-joins, InsideGoes-none, is_large, IsAwaited, length-take-le, sent_till, StdPolicy, StreamLog, TurnsLarge, Unbuffered, usual, WritesPromptly}
-use Rattle.requests.proofs.Large.{awaited, fresh_behind, tested}
-use Rattle.requests.proofs.Reading.{TakeFails-of, had_to_ask, steadily, steady_none}
+use Rattle.std.proofs.Common.{◌≡◌, ◌∙◌, false, ℕ, zero, suc, ◌+◌, ◌<◌, ◌≤◌, ◌⊎◌, List, [], ◌++◌, length, take, Option, ap, arith, inl, inr, length-append, refl, subst, sym, Ok, Result}
+use Rattle.requests.proofs.Names.{Buffered, Enters, Error, handed_of, InBody, InsideGoes, InsideGoes-joins, InsideGoes-none, is_large, IsAwaited, length-take-le, sent_till, StdPolicy, stream_in, StreamLog, Unbuffered, usual, WritesPromptly}
+use Rattle.requests.proofs.Coming.{GoesOn}
+use Rattle.messages.specs.declared.head.ParsedHead.{ParsedHead}
+use Rattle.requests.proofs.Large.{awaited, few_counted, tested, turns_large}
+use Rattle.requests.proofs.Reading.{TakeFails-of, inside_went, steadily, steady_none}
 use Rattle.requests.proofs.Sending.{WritesPromptly-none, WritesPromptly-on}
 use Rattle.requests.proofs.taking.payload_len.Goals as goal
 
 -- one read more
-on : {R : Type 0} {remaining : R → Option (List ℕ)} {b m t : InBody R} {payload : List ℕ} {len : ℕ} (out : List ℕ) (count : ℕ)
-    → InsideGoes remaining b payload m → len ≡ length payload → count ≤ length out → InsideGoes remaining m (take count out) t
-    → InsideGoes remaining b (payload ++ take count out) t × (len + count ≡ length (payload ++ take count out))
-on {R} {remaining} {b} {m} {t} {payload} {len} out count before many bound goes = (
-  InsideGoes-joins remaining b m t payload (take count out) before goes,
-  omega (arith, many, length-append payload (take count out), length-take-le count out bound),
+many_on : {R : Type 0} {remaining : R → Option (List ℕ)} {m t : InBody R} {len : ℕ} (out : List ℕ) (count : ℕ)
+    → len ≡ length (handed_of m.body) → count ≤ length out → InsideGoes remaining m (take count out) t
+    → len + count ≡ length (handed_of t.body)
+many_on {m = m} out count many bound goes = omega (
+  arith,
+  many,
+  ap length goes.went.handed,
+  length-append (handed_of m.body) (take count out),
+  length-take-le count out bound,
 )
 
 -- a read handed out what it noted, or nothing
@@ -25,29 +30,32 @@ latest_of (suc n) out bound few noted =
 
 -- and it was asked for as more of the body is
 asks_on : {R W : Type 0} {remaining : R → Option (List ℕ)} {tells : W → StreamLog} {trace : W → W → Type 0}
-    (joins : (u v x : W) → trace u v → trace v x → trace u x) {b m : InBody R} {t : Unbuffered R} {payload : List ℕ}
-    {w u v : Buffered W StdPolicy} (sending : Result (Unit {0}) Error) → b.taken ≡ [] → b.rest ≡ body_of usual b.said.extent
-    → InsideGoes remaining b payload m → is_large b.said.extent (length m.taken) (length payload) ≡ false
-    → WritesPromptly tells trace (IsAwaited b.said.extent) (b.stream, w) (Ok tt) (m.stream, u)
-    → WritesPromptly tells trace (BeginsRest m.rest []) (m.stream, u) sending (t, v)
-    → WritesPromptly tells trace (IsAwaited b.said.extent) (b.stream, w) sending (t, v)
-asks_on joins {b} {m} {t} {payload} {w} {u} {v} sending first whole goes small =
-    WritesPromptly-on joins (BeginsRest m.rest []) (IsAwaited b.said.extent) (b.stream, w) (m.stream, u) (t, v) sending
-    goes.takes.went.order (λ more on. awaited payload first whole goes small (m.stream.left ++ more) on)
+    (joins : (u v x : W) → trace u v → trace v x → trace u x) {b m : InBody R} {t : Unbuffered R} {payload : List ℕ} {len : ℕ}
+    {w u v : Buffered W StdPolicy} (sending : Result (Unit {0}) Error) → Enters usual b → InsideGoes remaining b payload m
+    → len ≡ length (handed_of m.body) → is_large m.said.extent (length m.body.taken) len ≡ false
+    → WritesPromptly tells trace (IsAwaited b.said.extent) (stream_in b, w) (Ok tt) (stream_in m, u)
+    → WritesPromptly tells trace (GoesOn m) (stream_in m, u) sending (t, v)
+    → WritesPromptly tells trace (IsAwaited b.said.extent) (stream_in b, w) sending (t, v)
+asks_on joins {b} {m} {t} {w = w} {u = u} {v = v} sending enters goes many small =
+    WritesPromptly-on joins (GoesOn m) (IsAwaited b.said.extent) (stream_in b, w) (stream_in m, u) (t, v) sending
+    (inside_went goes).order (λ more on. awaited enters goes
+    (subst (λ x. is_large x.extent (length m.body.taken) (length (handed_of m.body)) ≡ false) goes.said
+    (subst (λ n. is_large m.said.extent (length m.body.taken) n ≡ false) many small)) more on)
 
 pub returns-then-is_large-clause-goes : goal.returns-then-is_large-clause-goes
-returns-then-is_large-clause-goes g c =
-    let b = c.args.body.now in (
-      [],
-      InsideGoes-none g.R.TellRead.remaining b,
-      (
-        steady_none (refl, refl),
-        record {
-          large = tested _ b.said.extent _ _ b.taken [] _ c.is_large.ensures (ap (λ x. x.extent) c.said-extent.ensures.value)
-              c.taken.ensures refl ∙ c.if-is_large.true;
-          fresh = inl (c.requires.first, refl);
-        },
-      ),
+returns-then-is_large-clause-goes g c = ([], InsideGoes-none g.R.TellRead.remaining c.args.body.now c.requires.enters.whole)
+
+pub returns-then-is_large-clause-fails : goal.returns-then-is_large-clause-fails
+returns-then-is_large-clause-fails g c =
+    let b = c.args.body.now in
+    let none : handed_of b.body ≡ [] = ap (λ x. handed_of x.body) c.requires.enters.is in (
+      steady_none (refl, refl),
+      record {
+        large = ap (λ l. is_large b.said.extent (length b.body.taken) (length l)) none
+            ∙ tested _ b.said.extent _ 0 b.body.taken _ c.is_large.ensures (ap (λ x. x.extent) c.said-extent.ensures.value)
+            c.taken.ensures ∙ c.if-is_large.true;
+        fresh = inl (ap (λ x. x.body.taken) c.requires.enters.is, none);
+      },
     )
 
 pub loop-read-init : goal.loop-read-init
@@ -55,84 +63,92 @@ loop-read-init g c =
     let b = c.args.body.now in
     record {
       payload = [];
-      goes = InsideGoes-none g.R.TellRead.remaining b;
-      many = refl;
+      goes = InsideGoes-none g.R.TellRead.remaining b c.requires.enters.whole;
+      many = sym (ap (λ x. length (handed_of x.body)) c.requires.enters.is);
       steady = steady_none (refl, refl);
       turns = omega arith;
-      writes = WritesPromptly-none (IsAwaited b.said.extent) g.met.W.TellWrite.trace_none (b.stream, c.args.writer.now);
+      writes = WritesPromptly-none (IsAwaited b.said.extent) g.met.W.TellWrite.trace_none (stream_in b, c.args.writer.now);
       held = c.requires.held;
-      small = tested _ b.said.extent _ _ b.taken [] _ c.is_large.ensures (ap (λ x. x.extent) c.said-extent.ensures.value)
-          c.taken.ensures refl ∙ c.if-is_large.false;
+      small = tested _ b.said.extent _ 0 b.body.taken _ c.is_large.ensures (ap (λ x. x.extent) c.said-extent.ensures.value)
+          c.taken.ensures ∙ c.if-is_large.false;
     }
+
+pub overflow_add-len : goal.overflow_add-len
+overflow_add-len g c =
+    let b = c.loop-read.body in
+    let few = few_counted b.said.extent (length b.body.taken) c.loop-read.len c.loop-read.invariant.small in
+    omega (arith, few, c.in-Ok.ensures.bound, c.read_on.auto.out)
+
+-- what the head says of the extent still stands
+same_extent : {R : Type 0} {remaining : R → Option (List ℕ)} {b m t : InBody R} {h k : List ℕ} {said : ParsedHead}
+    → said ≡ b.said → InsideGoes remaining b h m → InsideGoes remaining m k t → said.extent ≡ t.said.extent
+same_extent same goes more = ap (λ x. x.extent) (same ∙ sym (more.said ∙ goes.said))
 
 pub loop-read-preserved : goal.loop-read-preserved
 loop-read-preserved g c =
     let before = c.loop-read.invariant in
     let read = c.in-Ok.ensures in
-    let more = on c.read_on.new.out c.in-Ok.count before.goes before.many read.bound read.goes in
-    let all = before.payload ++ take c.in-Ok.count c.read_on.new.out in
+    let out = c.read_on.new.out in
+    let count = c.in-Ok.count in
     record {
-      payload = all;
-      goes = more.0;
-      many = more.1;
+      payload = before.payload ++ take count out;
+      goes = InsideGoes-joins g.R.TellRead.remaining _ _ _ before.payload (take count out) before.goes read.goes;
+      many = many_on out count before.many read.bound read.goes;
       steady = steadily before.steady read.reads.steady;
       turns = elim read.reads.more [
         | inl ended ↦ (let odd = c.is_done.ensures.ended.1 ended in absurd (cc))
-        | inr some ↦ omega (arith, some, before.turns, before.many, more.1)
+        | inr some ↦ omega (arith, some, before.turns)
       ];
-      writes = asks_on g.met.W.TellWrite.trace_joins (Ok tt) c.requires.first c.requires.rest before.goes before.small
-          before.writes read.writes;
+      writes = asks_on g.met.W.TellWrite.trace_joins (Ok tt) c.requires.enters before.goes before.many before.small before.writes
+          read.writes;
       held = read.writes.puts.held before.held;
-      small = tested _ c.args.body.now.said.extent _ _ c.read_on.new.body.taken all _ c.is_large-in-loop-read.ensures
-          (ap (λ x. x.extent) c.said-extent.ensures.value) c.taken-in-loop-read.ensures more.1 ∙ c.if-is_large-2.false;
+      small = tested _ _ _ _ c.read_on.new.body.body.taken _ c.is_large-in-loop-read.ensures
+          (same_extent c.said-extent.ensures.value before.goes read.goes) c.taken-in-loop-read.ensures ∙ c.if-is_large-2.false;
     }
 
 pub returns-then-is_large-2-clause-goes : goal.returns-then-is_large-2-clause-goes
 returns-then-is_large-2-clause-goes g c =
     let before = c.loop-read.invariant in
+    let last = take c.in-Ok.count c.read_on.new.out in
+    (before.payload ++ last, InsideGoes-joins g.R.TellRead.remaining _ _ _ before.payload last before.goes c.in-Ok.ensures.goes)
+
+pub returns-then-is_large-2-clause-fails : goal.returns-then-is_large-2-clause-fails
+returns-then-is_large-2-clause-fails g c =
+    let before = c.loop-read.invariant in
     let read = c.in-Ok.ensures in
     let out = c.read_on.new.out in
-    let more = on out c.in-Ok.count before.goes before.many read.bound read.goes in
-    let last = take c.in-Ok.count out in
-    let extent = c.args.body.now.said.extent in
-    let taken = c.read_on.new.body.taken in
-    let latest = c.read_on.new.body.calls.reads.latest in (
-      before.payload ++ last,
-      more.0,
-      (
-        steadily before.steady read.reads.steady,
-        subst (λ x. TurnsLarge x.extent latest taken (before.payload ++ last)) (sym more.0.said) (record {
-          large = tested _ extent _ _ taken (before.payload ++ last) _ c.is_large-in-loop-read.ensures
-              (ap (λ x. x.extent) c.said-extent.ensures.value) c.taken-in-loop-read.ensures more.1 ∙ c.if-is_large-2.true;
-          fresh = fresh_behind before.payload last c.requires.first c.requires.rest before.goes before.small read.goes
-              (latest_of c.in-Ok.count out read.bound (omega (arith, read.bound, c.read_on.auto.out)) read.noted);
-        }),
-      ),
+    let m = c.loop-read.body in
+    let t = c.read_on.new.body in (
+      steadily before.steady read.reads.steady,
+      turns_large before.goes.whole read.goes
+          (latest_of c.in-Ok.count out read.bound (omega (arith, read.bound, c.read_on.auto.out)) read.noted)
+          (subst (λ x. is_large x.extent (length m.body.taken) (length (handed_of m.body)) ≡ false) (sym read.goes.said)
+          (subst (λ n. is_large m.said.extent (length m.body.taken) n ≡ false) before.many before.small))
+          (many_on out c.in-Ok.count before.many read.bound read.goes)
+          (tested _ _ _ _ t.body.taken _ c.is_large-in-loop-read.ensures
+          (same_extent c.said-extent.ensures.value before.goes read.goes) c.taken-in-loop-read.ensures ∙ c.if-is_large-2.true),
     )
 
 pub returns-then-is_large-2-clause-writes : goal.returns-then-is_large-2-clause-writes
 returns-then-is_large-2-clause-writes g c =
     let before = c.loop-read.invariant in
-    asks_on g.met.W.TellWrite.trace_joins (Ok tt) c.requires.first c.requires.rest before.goes before.small before.writes
+    asks_on g.met.W.TellWrite.trace_joins (Ok tt) c.requires.enters before.goes before.many before.small before.writes
     c.in-Ok.ensures.writes
 
 pub returns-then-is_done-clause-goes : goal.returns-then-is_done-clause-goes
 returns-then-is_done-clause-goes g c =
     let before = c.loop-read.invariant in
-    let read = c.in-Ok.ensures in
-    let more = on c.read_on.new.out c.in-Ok.count before.goes before.many read.bound read.goes in
-    (before.payload ++ take c.in-Ok.count c.read_on.new.out, more.0, more.1)
+    let last = take c.in-Ok.count c.read_on.new.out in
+    (before.payload ++ last, InsideGoes-joins g.R.TellRead.remaining _ _ _ before.payload last before.goes c.in-Ok.ensures.goes)
+
+pub returns-then-is_done-clause-many : goal.returns-then-is_done-clause-many
+returns-then-is_done-clause-many g c =
+    many_on c.read_on.new.out c.in-Ok.count c.loop-read.invariant.many c.in-Ok.ensures.bound c.in-Ok.ensures.goes
 
 pub returns-then-is_done-clause-small : goal.returns-then-is_done-clause-small
-returns-then-is_done-clause-small g c =
-    let before = c.loop-read.invariant in
-    let read = c.in-Ok.ensures in
-    let more = on c.read_on.new.out c.in-Ok.count before.goes before.many read.bound read.goes in
-    let t = c.read_on.new.body in
-    ap (λ n. is_large t.said.extent (length t.taken) n) more.1
-    ∙ tested _ t.said.extent _ _ t.taken (before.payload ++ take c.in-Ok.count c.read_on.new.out) _
-    c.is_large-in-loop-read.ensures (ap (λ x. x.extent) (c.said-extent.ensures.value ∙ sym more.0.said))
-    c.taken-in-loop-read.ensures more.1 ∙ c.if-is_large-2.false
+returns-then-is_done-clause-small g c = tested _ _ _ _ c.read_on.new.body.body.taken _ c.is_large-in-loop-read.ensures
+    (same_extent c.said-extent.ensures.value c.loop-read.invariant.goes c.in-Ok.ensures.goes) c.taken-in-loop-read.ensures
+    ∙ c.if-is_large-2.false
 
 pub returns-then-is_done-clause-steady : goal.returns-then-is_done-clause-steady
 returns-then-is_done-clause-steady g c = steadily c.loop-read.invariant.steady c.in-Ok.ensures.reads.steady
@@ -140,21 +156,24 @@ returns-then-is_done-clause-steady g c = steadily c.loop-read.invariant.steady c
 pub returns-then-is_done-clause-writes : goal.returns-then-is_done-clause-writes
 returns-then-is_done-clause-writes g c =
     let before = c.loop-read.invariant in
-    asks_on g.met.W.TellWrite.trace_joins (Ok tt) c.requires.first c.requires.rest before.goes before.small before.writes
+    asks_on g.met.W.TellWrite.trace_joins (Ok tt) c.requires.enters before.goes before.many before.small before.writes
     c.in-Ok.ensures.writes
 
 pub returns-in-Err-clause-goes : goal.returns-in-Err-clause-goes
 returns-in-Err-clause-goes g c =
-    let before = c.loop-read.invariant in (
-      before.payload ++ [],
-      InsideGoes-joins _ _ _ _ _ [] before.goes c.in-Err.ensures.goes,
-      TakeFails-of before.steady (before.payload ++ []) c.read_on.new.body c.read_on.new.writer c.in-Err.e
-          (had_to_ask c.requires.first c.requires.rest before.goes c.in-Err.ensures.goes c.in-Err.ensures.asked)
-          c.in-Err.ensures.fails,
-    )
+    let before = c.loop-read.invariant in
+    (before.payload ++ [], InsideGoes-joins _ _ _ _ before.payload [] before.goes c.in-Err.ensures.goes)
+
+pub returns-in-Err-clause-fails : goal.returns-in-Err-clause-fails
+returns-in-Err-clause-fails g c =
+    TakeFails-of c.loop-read.body c.read_on.new.body c.loop-read.invariant.steady c.read_on.new.writer c.in-Err.e
+    c.in-Err.ensures.asked c.in-Err.ensures.fails
 
 pub returns-in-Err-clause-writes : goal.returns-in-Err-clause-writes
 returns-in-Err-clause-writes g c =
     let before = c.loop-read.invariant in
-    asks_on g.met.W.TellWrite.trace_joins (sent_till c.in-Err.e) c.requires.first c.requires.rest before.goes before.small
+    asks_on g.met.W.TellWrite.trace_joins (sent_till c.in-Err.e) c.requires.enters before.goes before.many before.small
     before.writes c.in-Err.ensures.writes
+
+pub read_on-requires-clause-whole : goal.read_on-requires-clause-whole
+read_on-requires-clause-whole g c = c.loop-read.invariant.goes.whole

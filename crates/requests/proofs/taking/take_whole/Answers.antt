@@ -1,40 +1,48 @@
--- Where no more of the body comes it has ended, so to finish it the stream is asked for nothing.
-use Rattle.std.proofs.Common.{◌++◌}
-use Rattle.requests.proofs.Names.{InsideGoes-joins, IsAwaited, left_of}
-use Rattle.requests.proofs.Reading.{TakeFails-behind, unasked, unasked_log, unfinished_sent, whole_taken}
-use Rattle.requests.proofs.Sending.{WritesPromptly-then}
+-- Where no more of the body comes it has ended, so it can be finished, and the stream is asked for nothing.
+use Rattle.std.proofs.Common.{◌≡◌, ◌++◌, ◌∙◌, ap, false, length, Ok, subst, sym}
+use Rattle.requests.proofs.Names.{body_rules, handed_of, is_large, IsAwaited, ReadsSteadily, stream_in, TakesWhole, TookWholeBody, whole_body, WritesPromptly}
+use Rattle.requests.proofs.Reading.{finishes, inside_went, left_there}
 use Rattle.requests.proofs.taking.take_whole.Goals as goal
+
+pub returns-in-Ok-finish-clause-limits : goal.returns-in-Ok-finish-clause-limits
+returns-in-Ok-finish-clause-limits g c = ap (λ d. d.0) c.in-Ok-finish.ensures.limits ∙ c.in-Ok.ensures.goes.1.limits
+    ∙ ap (λ x. x.limits) c.requires.enters.is
 
 pub returns-in-Ok-finish-clause-whole : goal.returns-in-Ok-finish-clause-whole
 returns-in-Ok-finish-clause-whole g c =
-    let read = c.in-Ok.ensures.goes in
-    whole_taken g.R.TellRead.remaining c.args.body c.payload_len.new.body read.0 (left_of c.in-Ok-finish.requests) c.in-Ok.len
-    read.1 read.2 c.in-Ok.ensures.ended c.in-Ok.ensures.small c.in-Ok-finish.ensures.ends
-
-pub returns-in-Ok-finish-clause-writes : goal.returns-in-Ok-finish-clause-writes
-returns-in-Ok-finish-clause-writes g c =
+    let b = c.args.body in
     let m = c.payload_len.new.body in
-    let t = left_of c.in-Ok-finish.requests in
-    WritesPromptly-then (IsAwaited c.args.body.said.extent) c.in-Ok.ensures.writes c.in-Ok-finish.ensures.ends.went.order
-    (unasked_log m.stream t m.rest c.in-Ok.ensures.ended c.in-Ok-finish.ensures.asked)
-
-pub returns-in-Err-finish-clause-part : goal.returns-in-Err-finish-clause-part
-returns-in-Err-finish-clause-part g c =
-    let read = c.in-Ok.ensures.goes in
-    let rest = c.in-Err-finish.ensures.ends in (
-      read.0 ++ rest.0,
-      InsideGoes-joins g.R.TellRead.remaining c.args.body c.payload_len.new.body c.in-Err-finish.body read.0 rest.0 read.1 rest.1,
-      rw c.unfinished.ensures (TakeFails-behind c.in-Ok.ensures.steady read.0 rest.0 c.in-Err-finish.body
-          c.payload_len.new.writer c.in-Err-finish.e rest.2
-          (unasked c.payload_len.new.body.stream c.in-Err-finish.body.stream (unasked_log c.payload_len.new.body.stream
-          c.in-Err-finish.body.stream c.payload_len.new.body.rest c.in-Ok.ensures.ended c.in-Err-finish.ensures.asked))),
+    let len = c.in-Ok.len in
+    let read = c.in-Ok.ensures in
+    let goes = read.goes.1 in
+    let enters = c.requires.enters in
+    let payload : handed_of m.body ≡ read.goes.0 =
+    goes.went.handed ∙ ap (λ x. handed_of x.body ++ read.goes.0) enters.is in
+    let wire : m.body.taken ≡ goes.went.wire = goes.went.taken ∙ ap (λ x. x.body.taken ++ goes.went.wire) enters.is in
+    let many : len ≡ length read.goes.0 = read.many ∙ ap length payload in
+    subst (λ u. TakesWhole g.R.TellRead.remaining b u len) (sym (left_there read.ended c.in-Ok-finish.ensures.ends)) (
+      goes.went.wire,
+      read.goes.0,
+      inside_went goes,
+      whole_body g.R.TellRead.remaining enters goes.went
+          (subst (λ x. TookWholeBody (body_rules x) m.body) goes.went.coding read.ended),
+      many,
+      subst (λ n. is_large b.said.extent (length goes.went.wire) n ≡ false) many
+          (subst (λ l. is_large b.said.extent (length l) len ≡ false) wire
+          (subst (λ x. is_large x.extent (length m.body.taken) len ≡ false) goes.said read.small)),
     )
 
+pub returns-in-Ok-finish-clause-steady : goal.returns-in-Ok-finish-clause-steady
+returns-in-Ok-finish-clause-steady g c = subst (ReadsSteadily (stream_in c.args.body))
+    (sym (left_there c.in-Ok.ensures.ended c.in-Ok-finish.ensures.ends)) c.in-Ok.ensures.steady
+
+pub returns-in-Ok-finish-clause-writes : goal.returns-in-Ok-finish-clause-writes
+returns-in-Ok-finish-clause-writes g c = subst (λ u. WritesPromptly g.W.Tell.log g.W.TellWrite.trace
+    (IsAwaited c.args.body.said.extent) (stream_in c.args.body, c.args.writer.now) (Ok tt) (u, c.payload_len.new.writer))
+    (sym (left_there c.in-Ok.ensures.ended c.in-Ok-finish.ensures.ends)) c.in-Ok.ensures.writes
+
+pub returns-in-Err-finish-clause-part : goal.returns-in-Err-finish-clause-part
+returns-in-Err-finish-clause-part g c = absurd (finishes c.in-Ok.ensures.ended c.in-Err-finish.ensures.ends)
+
 pub returns-in-Err-finish-clause-writes : goal.returns-in-Err-finish-clause-writes
-returns-in-Err-finish-clause-writes g c =
-    let m = c.payload_len.new.body in
-    let t = c.in-Err-finish.body in
-    rw (c.unfinished.ensures, unfinished_sent c.in-Err-finish.e)
-    (WritesPromptly-then (IsAwaited c.args.body.said.extent) c.in-Ok.ensures.writes
-    c.in-Err-finish.ensures.ends.1.takes.went.order
-    (unasked_log m.stream t.stream m.rest c.in-Ok.ensures.ended c.in-Err-finish.ensures.asked))
+returns-in-Err-finish-clause-writes g c = absurd (finishes c.in-Ok.ensures.ended c.in-Err-finish.ensures.ends)

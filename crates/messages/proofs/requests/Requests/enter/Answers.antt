@@ -1,7 +1,8 @@
 -- The bytes lent are a head, so it is read and fits its room; the body begins in what is left behind it.
 use Rattle.std.proofs.Common.{◌≡◌, ◌++◌, arith, rules, ap, sym, subst, ◌∙◌, length, refl, Some, Ok}
-use Rattle.messages.specs.Names.{bytes_at, heads, IsHead, IsHeadPiece, left_of, NextPiece, Plain, room_of, Unbuffered, unbuffered}
+use Rattle.messages.specs.Names.{body_rules, bytes_at, heads, IsBodyReader, IsHead, IsHeadPiece, left_of, NextPiece, Plain, room_of, Unbuffered, unbuffered}
 use Rattle.messages.specs.HeadsLaws.{text_few}
+use Rattle.messages.specs.Messages.{entering}
 use Rattle.messages.specs.MessagesLaws.{same_room}
 use Rattle.messages.proofs.requests.Requests.enter.Goals as goal
 
@@ -43,21 +44,21 @@ returns g c =
     c.append.ensures.bytes.bytes ∙ ap (λ l. l ++ c.lent-lent.result.now) c.clear.ensures.bytes.bytes in
     let room : room_of c.with_buffer.result.block ≡ room_of t.reader.block =
     rw c.with_buffer.ensures (same_room c.into_inner_with_buffer-inner.result.1 t.reader.block apart.capacity apart.limit) in
-    rw (c.new.ensures, ← c.self.view_is) (record {
+    let is = c.new.ensures.enters in
+    rw (is, ← c.self.view_is) (record {
       stream = stands;
       still = rw c.with_buffer.ensures unmoved;
-      begun = λ s next. record {
+      begun = λ s next. (let same : limits ≡ s.decoder.0 = ap (λ d. d.0) (c.decoder.ensures ∙ next.went.decoder) in record {
         behind = t;
         next = subst (λ l. NextPiece g.R.TellRead.remaining (heads s.decoder.0) s (Ok (Some l)) t)
             (sym (lent ∙ c.lent-lent.ensures)) next;
         stream = stands;
         room = room ∙ same_room t.reader.block s.reader.block next.went.capacity next.went.limit;
         moved = rw c.with_buffer.ensures unmoved;
-        fresh = refl;
-        limits = ap (λ d. d.0) (c.decoder.ensures ∙ next.went.decoder);
-        is = subst (λ l. IsHead limits l said) (sym lent) c.in-Ok.ensures.head;
-        rest = refl;
-        taken = refl;
-        unknown = refl;
-      };
+        is = subst (λ l. IsHead l head said) same (subst (λ l. IsHead limits l said) (sym lent) c.in-Ok.ensures.head);
+        enters = record {
+          is = ap (λ l. entering c.with_buffer.result l head said) same;
+          whole = subst (λ b. IsBodyReader (body_rules b.body.coding) b.body) is c.new.ensures.whole;
+        };
+      });
     })

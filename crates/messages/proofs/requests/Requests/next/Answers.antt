@@ -1,7 +1,6 @@
 -- The head that the step lent is still buffered, so the body begins behind it.
 use Rattle.std.proofs.Common.{◌≡◌, false, inl, inr}
-use Rattle.messages.specs.MessagesLaws.{lent_still}
-use Rattle.messages.proofs.Said.{begun_in_order}
+use Rattle.messages.specs.MessagesLaws.{Begun-went, lent_still}
 use Rattle.messages.proofs.requests.Requests.next.Goals as goal
 
 pub enter-requires : goal.enter-requires
@@ -15,8 +14,9 @@ enter-requires g c =
 pub returns-in-Ok-Some-clause-in_order : goal.returns-in-Ok-Some-clause-in_order
 returns-in-Ok-Some-clause-in_order g c =
     let next = rw c.in-Ok-Some.field-0-is at c.in-Ok-Some.ensures.next in
-    rw (← c.self.view_is)
-    (begun_in_order g.R.TellRead.remaining c.self.inside.pieces c.enter.result (c.enter.ensures.begun c.self.inside.pieces next))
+    let s = c.self.inside.pieces in
+    let order = (Begun-went g.R.TellRead.remaining s c.enter.result (c.enter.ensures.begun s next)).order in
+    rw (← c.self.view_is) (order.got, order.given, order.equal)
 
 pub returns-in-Ok-Some-clause-next : goal.returns-in-Ok-Some-clause-next
 returns-in-Ok-Some-clause-next g c =

@@ -1,8 +1,8 @@
 -- The head that the step lent is still buffered, so the body begins behind it; without one none begins there.
 use Rattle.std.proofs.Common.{◌≡◌, ap, false, inl, inr, rules, subst, sym}
-use Rattle.messages.specs.Names.{Begins, heads, rest}
-use Rattle.messages.specs.MessagesLaws.{lent_still}
-use Rattle.messages.proofs.Said.{begun_front}
+use Rattle.messages.specs.Names.{Begins, heads, left_of, rest, unbuffered}
+use Rattle.messages.proofs.Unasked.{StreamWent-unasked}
+use Rattle.messages.specs.MessagesLaws.{Begun-went, lent_still}
 use Rattle.messages.proofs.requests.Requests.next_buffered.Goals as goal
 
 pub invariant_of-self : goal.invariant_of-self
@@ -19,9 +19,11 @@ enter-requires g c = record {
 
 pub returns-in-Some-clause-front : goal.returns-in-Some-clause-front
 returns-in-Some-clause-front g c =
-    let unasked : c.enter.result.stream.log ≡ c.self.inside.pieces.reader.log = search rules in
-    rw (← c.self.view_is) (begun_front g.R.TellRead.remaining c.self.inside.pieces c.enter.result
-    (c.enter.ensures.begun c.self.inside.pieces c.in-Some.ensures.next.0) unasked)
+    let s = c.self.inside.pieces in
+    let b = c.enter.result in
+    let unasked : b.body.reader.log ≡ s.reader.log = search rules in
+    rw (← c.self.view_is) (StreamWent-unasked g.R.TellRead.remaining (left_of s) (unbuffered b.body.reader) b.head
+    (Begun-went g.R.TellRead.remaining s b (c.enter.ensures.begun s c.in-Some.ensures.next.0)) unasked)
 
 pub returns-in-Some-clause-begun : goal.returns-in-Some-clause-begun
 returns-in-Some-clause-begun g c = rw (← c.self.view_is) (c.enter.ensures.begun c.self.inside.pieces c.in-Some.ensures.next.0)
