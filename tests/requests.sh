@@ -42,7 +42,7 @@ wrong() { # what is said of it
 
 # The statuses, and for a 200 with a payload its length, in order.
 answers() { # the file that came in
-    "$program" < "$1" > "$scratch/out" 2> "$scratch/err" || wrong "status $?"
+    timeout 20 "$program" < "$1" > "$scratch/out" 2> "$scratch/err" || wrong "status $?"
     tr -d '\r' < "$scratch/out" | awk '/^HTTP/ { printf "%s%s", sep, $2; sep = " " } /^ *[0-9]+$/ { printf ":%d", $1 }'
 }
 
@@ -165,7 +165,18 @@ for version in 1.2 1.9; do
     row "GET / HTTP/$version\r\n$H\r\n$G" '200:0 200:0'
     row "\r\nCONNECT a:1 HTTP/$version\r\n$H\r\n$G" '501'
 done
-row 'PRI * HTTP/2.0\r\n\r\nSM\r\n\r\n' '505'
+row 'PRI * HTTP/2.0\r' '505'
+
+# A first line with which no request begins is refused while the client waits: of SSH, of HTTP/0.9, of TLS, of another protocol.
+mkfifo "$scratch/open"
+exec 3<> "$scratch/open"
+for line in 'SSH-2.0-x\r\n' 'GET /\r\n' '\0026\0003\0001' 'OPTIONS /a RTSP/1.0\r\n' 'GET  / ' '\r\n:'; do
+    printf '%b' "$line" >&3
+    got=$(answers "$scratch/open")
+    runs=$((runs + 1))
+    if [ "$got" != 400 ]; then wrong "'$got', not '400', of $line, and no more"; fi
+done
+exec 3>&-
 
 # Empty lines in front of a head, or at the end, say nothing.
 row "\r\n$G" '200:0'

@@ -1,11 +1,11 @@
 -- Laws of heads.
-use Rattle.std.specs.Prelude.{◌≡◌, ℕ, ◌≤◌, Bool, true, false, ◌&&◌, List, [], ◌∷◌, ◌++◌, length, take, if◌then◌else◌}
+use Rattle.std.specs.Prelude.{◌≡◌, ℕ, ◌≤◌, ◌==◌, Bool, true, false, ◌&&◌, ◌||◌, List, [], ◌∷◌, ◌++◌, length, take, if◌then◌else◌}
 use Rattle.std.proofs.Common.{sym, ap, subst, inl, inr, ◌∙◌, arith, refl, append_assoc, length-append}
-use Rattle.messages.specs.Names.{as_known, Bad, Before, Begins, behind_blank, EmptyReturn, ends_chunked, fault_on, fault_then, Feed, First, first_line, FirstReturn, has_many_lines, has_other_version, head_fault, HeaderError, heads, is_connect, is_doubtful, IsHead, IsHeadFault, IsLawful, IsNoHead, known_of, length-drop, Limits, lines, lines_fault, method_kind, More, request_framing, request_unique, Return, said_fault, scanned_headers, ScanStep, Sized, Start, StartReturn, Text, texts, too_long, true≢false, turn}
+use Rattle.messages.specs.Names.{as_known, Bad, Before, Begins, behind_blank, ends_chunked, fault_on, fault_then, first_line, has_many_lines, has_other_version, head_fault, HeaderError, heads, is_behind_first, is_connect, is_doubtful, is_return, IsHead, IsHeadFault, IsLawful, IsNoHead, known_of, length-drop, Limits, lines, lines_fault, method_kind, More, names_other, request_framing, request_unique, said_fault, scanned_headers, ScanStep, Sized, Start, texts, true≢false, turn, turn_fault}
 use Rattle.http1.specs.declared.fields.KnownFields.{KnownFields}
 use Rattle.http1.specs.declared.framing.MethodKind.{MethodKind}
 use Rattle.messages.specs.declared.bad_head.BadHead.{BadHead}
-use Rattle.messages.specs.declared.bad_head.BadHead.TheVariants.{ManyFields, CutShort, Version, Tunnel, Coding, Refused}
+use Rattle.messages.specs.declared.bad_head.BadHead.TheVariants.{BareEnd, LongLine, LongHead, ManyFields, CutShort, Version, Tunnel, Coding, Refused}
 use Rattle.messages.specs.LinesLaws.{line_fault_stays, lines_small, texts_lawful}
 
 -- no head has more bytes
@@ -55,30 +55,27 @@ abbrev is_cut : BadHead → Bool
 is_cut (CutShort have) = true
 is_cut e = false
 
-whole_long : (place : Before) → is_cut (too_long place) ≡ false
-whole_long Start = refl
-whole_long StartReturn = refl
-whole_long First = refl
-whole_long FirstReturn = refl
-whole_long Feed = refl
-whole_long Text = refl
-whole_long Return = refl
-whole_long EmptyReturn = refl
-
-whole_then : (t : ScanStep Before) (on : Before → BadHead) → ((next : Before) → is_cut (on next) ≡ false)
-    → is_cut (fault_then t on) ≡ false
-whole_then (More next) on later = later next
-whole_then (Sized len) on later = refl
-whole_then Bad on later = refl
-
-whole_lines : (place : Before) (bytes : List ℕ) → is_cut (fault_on place bytes) ≡ false
-whole_lines place [] = whole_long place
-whole_lines place (byte ∷ bytes) =
-    whole_then (turn place byte) (λ next. fault_on next bytes) (λ next. whole_lines next bytes)
-
 whole_if : (test : Bool) (a b : BadHead) → is_cut a ≡ false → is_cut b ≡ false → is_cut (if test then a else b) ≡ false
 whole_if true a b is is' = is
 whole_if false a b is is' = is'
+
+whole_turn : (place : Before) (byte : ℕ) → is_cut (turn_fault place byte) ≡ false
+whole_turn place byte =
+    let named = names_other place && (byte == 13) in
+    whole_if ((byte == 10) || is_return place) BareEnd (if named then Version else Refused) refl
+    (whole_if named Version Refused refl refl)
+
+whole_then : (t : ScanStep Before) (e : BadHead) (on : Before → BadHead) → is_cut e ≡ false
+    → ((next : Before) → is_cut (on next) ≡ false) → is_cut (fault_then t e on) ≡ false
+whole_then (More next) e on is later = later next
+whole_then (Sized len) e on is later = is
+whole_then Bad e on is later = is
+
+whole_lines : (place : Before) (bytes : List ℕ) → is_cut (fault_on place bytes) ≡ false
+whole_lines place [] = whole_if (is_behind_first place) LongHead LongLine refl refl
+whole_lines place (byte ∷ bytes) =
+    whole_then (turn place byte) (turn_fault place byte) (λ next. fault_on next bytes) (whole_turn place byte)
+    (λ next. whole_lines next bytes)
 
 whole_said : (method : MethodKind) (minor : ℕ) (known : KnownFields) → is_cut (said_fault method minor known) ≡ false
 whole_said method minor known =

@@ -1,12 +1,18 @@
--- What is wrong with lines stays so.
-use Rattle.std.specs.Prelude.{◌≡◌, ℕ, zero, suc, ◌+◌, List, [], ◌∷◌, ◌++◌, take}
-use Rattle.std.proofs.Common.{sym, ◌∙◌, arith, refl}
-use Rattle.messages.specs.Names.{Bad, Before, fault_on, fault_then, HeaderError, IsLawful, line_fault, lines, More, scanned_headers, ScanStep, Sized, Start, texts, turn}
+-- What is wrong with lines stays so, and nothing is wrong with those of a request.
+use Rattle.std.specs.Prelude.{◌≡◌, ℕ, zero, suc, ◌+◌, ◌-◌, ◌<◌, ◌≤◌, ◌==◌, ◌&&◌, not, nat_le, if◌then◌else◌, Bool, true, false, All, IsTrue, List, [], ◌∷◌, ◌++◌, flat_map, length, take}
+use Rattle.std.specs.Char.{is_ascii_digit}
+use Rattle.std.proofs.Common.{sym, ap, subst, ◌∙◌, arith, refl, append_assoc, length-append}
+use Rattle.std.proofs.lemmas.Bool.{le-leb, ne_eqb}
+use Rattle.std.proofs.lemmas.List.{append-nil, drop_all}
+use Rattle.httparse.specs.Grammar.{AllPass, crlf, Field, is_token_byte, is_uri_byte, is_value_byte, IsField, IsRequestHead, LineEnd, print_blank, print_end, print_field, print_request, print_section, print_version, RequestHead}
+use Rattle.messages.specs.Names.{All-head, All-tail, Bad, Before, EmptyReturn, false≢true, fault_on, fault_then, Feed, FirstReturn, HeaderError, IsLawful, line_fault, lines, Method, More, Return, scanned_headers, ScanStep, Sized, Space, Start, StartReturn, Target, Text, texts, turn, turn_fault, Version}
+use Rattle.messages.specs.declared.bad_head.BadHead.{BadHead}
 use Rattle.codec.specs.declared.HeaderError.TheVariants.{NoHeader, TooLong, NoTail, Truncated}
 use Rattle.codec.specs.declared.Header.{Header}
 use Rattle.codec.specs.declared.Header.TheVariants as header
 use Rattle.codec.specs.HeaderFormatLaws.{length_prefixed_lawful}
-use Rattle.codec.specs.Scanning.{IsSmall, says, scan_on, scanned}
+use Rattle.codec.specs.Scanning.{IsSmall, LeadsTo, says, scan_on, scanned}
+use Rattle.codec.specs.ScanningLaws.{leads_on, leads_then}
 
 pub lines_small : IsSmall lines
 lines_small = record { some = omega arith; small = omega arith }
@@ -15,14 +21,15 @@ pub texts_lawful : IsLawful texts
 texts_lawful = length_prefixed_lawful (scanned lines) (scanned_headers lines lines_small)
 
 -- more bytes change nothing where so many settled what is said
-then_stays : (t : ScanStep Before) (left used : ℕ) (bytes more : List ℕ)
+then_stays : (t : ScanStep Before) (name : BadHead) (left used : ℕ) (bytes more : List ℕ)
     → ((next : Before) → ¬ (scan_on turn left next used bytes ≡ header.Short)
     → fault_on next (take left (bytes ++ more)) ≡ fault_on next (take left bytes))
     → ¬ (says t used (λ next. scan_on turn left next used bytes) ≡ header.Short)
-    → fault_then t (λ next. fault_on next (take left (bytes ++ more))) ≡ fault_then t (λ next. fault_on next (take left bytes))
-then_stays (More next) left used bytes more later said = later next said
-then_stays (Sized len) left used bytes more later said = refl
-then_stays Bad left used bytes more later said = refl
+    → fault_then t name (λ next. fault_on next (take left (bytes ++ more)))
+    ≡ fault_then t name (λ next. fault_on next (take left bytes))
+then_stays (More next) name left used bytes more later said = later next said
+then_stays (Sized len) name left used bytes more later said = refl
+then_stays Bad name left used bytes more later said = refl
 
 fault_stays : (left : ℕ) (place : Before) (used : ℕ) (bytes more : List ℕ)
     → ¬ (scan_on turn left place used bytes ≡ header.Short)
@@ -30,7 +37,7 @@ fault_stays : (left : ℕ) (place : Before) (used : ℕ) (bytes more : List ℕ)
 fault_stays zero place used bytes more said = refl
 fault_stays (suc left) place used [] more said = absurd (said refl)
 fault_stays (suc left) place used (byte ∷ bytes) more said =
-    then_stays (turn place byte) left (used + 1) bytes more
+    then_stays (turn place byte) (turn_fault place byte) left (used + 1) bytes more
     (λ next said'. fault_stays left next (used + 1) bytes more said') said
 
 not_short : (bytes : List ℕ) (why : HeaderError) → texts.wrong bytes why
@@ -45,3 +52,169 @@ not_short bytes (Truncated have) wrong short = absurd wrong
 pub line_fault_stays : (bytes more : List ℕ) (why : HeaderError) → texts.wrong bytes why
     → line_fault (bytes ++ more) ≡ line_fault bytes
 line_fault_stays bytes more why wrong = fault_stays 16384 Start 0 bytes more (not_short bytes why wrong)
+
+-- each line of a head ends by CR LF
+pub record EndsByBoth (h : RequestHead) : Type 0 where
+  pub blank : All (λ end. end ≡ crlf) h.blank
+  pub first : h.line_end ≡ crlf
+  pub fields : All (λ f. f.end ≡ crlf) h.fields
+  pub last : h.last ≡ crlf
+
+-- such bytes lead on from the one place to the other, and stay there
+some_lead : (from place : Before) (test : ℕ → Bool) → ((b : ℕ) → test b ≡ true → turn from b ≡ More place)
+    → ((b : ℕ) → test b ≡ true → turn place b ≡ More place) → (bytes : List ℕ) → 0 < length bytes → AllPass test bytes
+    → LeadsTo turn from bytes place
+some_lead from place test goes stays [] some all = absurd (omega (arith, some))
+some_lead from place test goes stays (b ∷ []) some all = (place, goes b (All-head (λ x. IsTrue (test x)) b [] all), refl)
+some_lead from place test goes stays (b ∷ c ∷ bytes) some all = (
+  place,
+  goes b (All-head (λ x. IsTrue (test x)) b (c ∷ bytes) all),
+  some_lead place place test stays stays (c ∷ bytes) (omega arith) (All-tail (λ x. IsTrue (test x)) b (c ∷ bytes) all),
+)
+
+no_token : (is_token_byte 13 ≡ false) × (is_token_byte 10 ≡ false) × (is_token_byte 32 ≡ false)
+unfolding is_token_byte
+no_token = (refl, refl, refl)
+
+-- what such a test lets through is a byte of a text
+stays_text : (test : ℕ → Bool) → test 13 ≡ false → test 10 ≡ false → (on : ScanStep Before) (b : ℕ) → test b ≡ true
+    → (if b == 13 then on else (if b == 10 then Bad else More Text)) ≡ More Text
+stays_text test no_return no_feed on b passes =
+    ap (λ t. if t then on else (if b == 10 then Bad else More Text))
+    (ne_eqb b 13 (λ is. absurd (false≢true (sym no_return ∙ ap test (sym is) ∙ passes))))
+    ∙ ap (λ t. if t then Bad else More Text)
+    (ne_eqb b 10 (λ is. absurd (false≢true (sym no_feed ∙ ap test (sym is) ∙ passes))))
+
+blank_leads : (ends : List LineEnd) → All (λ end. end ≡ crlf) ends → LeadsTo turn Start (print_blank ends) Start
+blank_leads [] all = refl
+blank_leads (end ∷ ends) all =
+    subst (λ e. LeadsTo turn Start (print_end e ++ print_blank ends) Start) (sym (All-head (λ e. e ≡ crlf) end ends all)) (
+      StartReturn,
+      ap (λ t. if t then More Method else More StartReturn) no_token.0,
+      (Start, refl, blank_leads ends (All-tail (λ e. e ≡ crlf) end ends all)),
+    )
+
+raw_leads : (bytes : List ℕ) → AllPass is_value_byte bytes → LeadsTo turn Text bytes Text
+raw_leads [] all = refl
+raw_leads (b ∷ bytes) all =
+    let stays = stays_text is_value_byte refl refl (More Return) in
+    some_lead Text Text is_value_byte stays stays (b ∷ bytes) (omega arith) all
+
+field_leads : (f : Field) → IsField f → f.end ≡ crlf → LeadsTo turn Feed (print_field f) Feed
+field_leads f is end =
+    let stays = stays_text is_token_byte no_token.0 no_token.1 in
+    let equal : f.name ++ 58 ∷ (f.raw ++ print_end f.end) ≡ print_field f = simp append_assoc in
+    subst (λ l. LeadsTo turn Feed l Feed) equal
+    (leads_then turn Feed f.name Text (58 ∷ (f.raw ++ print_end f.end)) Feed
+    (some_lead Feed Text is_token_byte (stays (More EmptyReturn)) (stays (More Return)) f.name is.name.0 is.name.1) (
+      Text,
+      refl,
+      leads_then turn Text f.raw Text (print_end f.end) Feed (raw_leads f.raw is.raw)
+          (subst (λ e. LeadsTo turn Text (print_end e) Feed) (sym end) (Return, refl, (Feed, refl, refl))),
+    ))
+
+fields_lead : (fields : List Field) → All IsField fields → All (λ f. f.end ≡ crlf) fields
+    → LeadsTo turn Feed (flat_map print_field fields) Feed
+fields_lead [] are ends = refl
+fields_lead (f ∷ fields) are ends =
+    leads_then turn Feed (print_field f) Feed (flat_map print_field fields) Feed
+    (field_leads f (All-head IsField f fields are) (All-head (λ f. f.end ≡ crlf) f fields ends))
+    (fields_lead fields (All-tail IsField f fields are) (All-tail (λ f. f.end ≡ crlf) f fields ends))
+
+version_leads : (minor : ℕ) → minor ≤ 9 → LeadsTo turn (Version 0 false) (print_version minor) (Version 8 false)
+version_leads minor small =
+    let digit : is_ascii_digit (48 + minor) ≡ true =
+    ap (λ t. t && nat_le (48 + minor) 57) (le-leb 48 (48 + minor) (omega arith))
+    ∙ le-leb (48 + minor) 57 (omega (arith, small)) in (
+      Version 1 false,
+      refl,
+      (
+        Version 2 false,
+        refl,
+        (
+          Version 3 false,
+          refl,
+          (
+            Version 4 false,
+            refl,
+            (
+              Version 5 false,
+              refl,
+              (
+                Version 6 false,
+                refl,
+                (
+                  Version 7 false,
+                  refl,
+                  (
+                    Version 8 false,
+                    ap (λ t. if t then More (Version 8 false) else
+                        (if (48 + minor == 13) && ((7 == 8) && not false) then More FirstReturn else Bad)) digit,
+                    refl,
+                  ),
+                ),
+              ),
+            ),
+          ),
+        ),
+      ),
+    )
+
+but_last : (a b c d e f : List ℕ) → a ++ b ++ 32 ∷ c ++ 32 ∷ d ++ e ++ (f ++ 13 ∷ 10 ∷ [])
+    ≡ (a ++ (b ++ 32 ∷ (c ++ 32 ∷ (d ++ (e ++ (f ++ 13 ∷ [])))))) ++ 10 ∷ []
+but_last a b c d e f = simp append_assoc
+
+-- the head of a request of HTTP/1.0 to 1.9, each line of which ends so, is such lines
+pub request_lines : (h : RequestHead) (minor : ℕ) → IsRequestHead h → minor ≤ 9 → EndsByBoth h
+    → length (print_request (record h { minor = minor })) ≤ 16384 → texts.piece (print_request (record h { minor = minor })) []
+unfolding print_request
+request_lines h minor is small ends few =
+    let text = print_request (record h { minor = minor }) in
+    let fields = flat_map print_field h.fields in
+    let line = print_end h.line_end ++ (fields ++ 13 ∷ []) in
+    let behind = print_version minor ++ line in
+    let front = print_blank h.blank ++ (h.method ++ 32 ∷ (h.target ++ 32 ∷ behind)) in
+    let section : LeadsTo turn Feed (fields ++ 13 ∷ []) EmptyReturn =
+    leads_then turn Feed fields Feed (13 ∷ []) EmptyReturn (fields_lead h.fields is.fields ends.fields) (EmptyReturn, refl, refl)
+    in
+    let version : LeadsTo turn (Version 0 false) behind EmptyReturn =
+    leads_then turn (Version 0 false) (print_version minor) (Version 8 false) line EmptyReturn
+    (version_leads minor small)
+    (subst (λ e. LeadsTo turn (Version 8 false) (print_end e ++ (fields ++ 13 ∷ [])) EmptyReturn) (sym ends.first)
+    (FirstReturn, refl, (Feed, refl, section))) in
+    let target : LeadsTo turn Space (h.target ++ 32 ∷ behind) EmptyReturn =
+    leads_then turn Space h.target Target (32 ∷ behind) EmptyReturn
+    (some_lead Space Target is_uri_byte (λ b yes. ap (λ t. if t then More Target else Bad) yes)
+    (λ b yes. ap (λ t. if t then More Target else (if b == 32 then More (Version 0 false) else Bad)) yes) h.target is.target.0
+    is.target.1) (Version 0 false, refl, version) in
+    let method : LeadsTo turn Start (h.method ++ 32 ∷ (h.target ++ 32 ∷ behind)) EmptyReturn =
+    leads_then turn Start h.method Method (32 ∷ (h.target ++ 32 ∷ behind)) EmptyReturn
+    (some_lead Start Method is_token_byte
+    (λ b yes. ap (λ t. if t then More Method else (if b == 13 then More StartReturn else Bad)) yes)
+    (λ b yes. ap (λ t. if t then More Method else (if b == 32 then More Space else Bad)) yes) h.method is.method.0 is.method.1)
+    (Space, ap (λ t. if t then More Method else More Space) no_token.2, target) in
+    let leads : LeadsTo turn Start front EmptyReturn =
+    leads_then turn Start (print_blank h.blank) Start (h.method ++ 32 ∷ (h.target ++ 32 ∷ behind)) EmptyReturn
+    (blank_leads h.blank ends.blank) method in
+    let equal : text ≡ front ++ 10 ∷ [] = ap (λ e. print_blank h.blank ++ h.method ++ 32 ∷ h.target ++ 32 ∷ print_version minor
+    ++ print_end h.line_end ++ print_section h.fields e) ends.last
+    ∙ but_last (print_blank h.blank) h.method h.target (print_version minor) (print_end h.line_end) fields in
+    let size : length text ≡ length front + 1 = ap length equal ∙ length-append front (10 ∷ []) in
+    let left = 16383 - length front in (
+      length front + 1,
+      ap (scan_on turn 16384 Start 0) equal
+          ∙ leads_on turn 16384 Start 0 front (10 ∷ []) EmptyReturn leads (suc left) (length front)
+          (omega (arith, size, few)) (omega arith),
+      omega arith,
+      drop_all (length front + 1) text (omega (arith, size)),
+    )
+
+-- and so none of its beginnings is refused
+pub never_refused : (h : RequestHead) (minor : ℕ) → IsRequestHead h → minor ≤ 9 → EndsByBoth h
+    → length (print_request (record h { minor = minor })) ≤ 16384
+    → (front more : List ℕ) → print_request (record h { minor = minor }) ≡ front ++ more
+    → (why : HeaderError) → ¬ (texts.wrong front why)
+never_refused h minor is small ends few front more equal why wrong =
+    let text = print_request (record h { minor = minor }) in
+    texts_lawful.apart text [] [] why (request_lines h minor is small ends few)
+    (subst (λ l. texts.wrong l why) (sym (append-nil text ∙ equal)) (texts_lawful.stays front more why wrong))

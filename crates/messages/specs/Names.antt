@@ -29,7 +29,7 @@ pub use Rattle.httparse.specs.Grammar.{ReadsRequest, RequestHead}
 pub use Rattle.httparse.specs.Spans.{header_bytes, IsRequestAt, name_and_value}
 pub use Rattle.messages.specs.Faults.{ends_chunked, has_many_lines, head_fault, is_connect, is_doubtful, IsHeadFault, lines_fault, said_fault}
 pub use Rattle.messages.specs.Heads.{expects, extent_of, heads, is_met, IsHead, IsHeadPiece, IsKnownHead, IsNoHead, keeps}
-pub use Rattle.messages.specs.Lines.{fault_on, fault_then, line_fault, lines, texts, too_long, turn}
+pub use Rattle.messages.specs.Lines.{fault_on, fault_then, is_behind_first, is_return, line_fault, lines, names_other, texts, turn, turn_fault}
 pub use Rattle.messages.specs.Messages.{AreMessages, Begun, body_answer, body_rules, BodyCoding, coding_of, EachReadGave, Enters, FinishesBody, InBody, InsideGoes, InTurn, IsMessage, IsRoomy, Message, MessagesWent, Reader, room_of, TellsWhy, WhyNone}
 pub use Rattle.messages.specs.Target.{begins_with_letter, is_web, IsBehindScheme, IsBracketed, IsPlainField, IsTarget}
 pub use Rattle.messages.specs.Versions.{as_known, behind_blank, first_line, has_other_version, with_one}
@@ -37,7 +37,7 @@ pub use Rattle.messages.specs.declared.head.Extent.{Extent}
 pub use Rattle.messages.specs.declared.head.ParsedHead.{ParsedHead}
 pub use Rattle.messages.specs.declared.limits.Limits.{Limits}
 pub use Rattle.messages.specs.declared.lines.Before.{Before}
-pub use Rattle.messages.specs.declared.lines.Before.TheVariants.{EmptyReturn, Feed, First, FirstReturn, Return, Start, StartReturn, Text}
+pub use Rattle.messages.specs.declared.lines.Before.TheVariants.{EmptyReturn, Feed, FirstReturn, Method, Return, Space, Start, StartReturn, Target, Text, Version}
 pub use Rattle.std.proofs.lemmas.Bool.{cases_lt, false≢true, true≢false}
 pub use Rattle.std.proofs.lemmas.List.{append_cancel_left, length-drop, length-map, length-take-le, nil_from_length, take-append-drop, take_min}
 pub use Rattle.std.proofs.lemmas.List.Elements.{All-cons, All-get_or, All-head, All-map, All-more, All-nil, All-tail}

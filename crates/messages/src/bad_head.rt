@@ -7,7 +7,7 @@ use std::fmt;
 pub enum BadHead {
     /// A CR or an LF is none of a CR LF that ends a line. 400.
     BareEnd,
-    /// The first line doesn't end within as many bytes as a head may have. 414.
+    /// The first line doesn't end within as many bytes as a head may have, with the empty ones in front. 414.
     LongLine,
     /// That does, but the head doesn't; or the bytes that [`read_head`](crate::read_head) is given are more, whatever their first
     /// line is. 431.

@@ -1,10 +1,11 @@
-//! Where a head ends: behind the first empty line, where CR LF ends each line.
-ghost use Rattle.std.specs.Prelude.{◌≡◌};
-ghost use Rattle.messages.specs.Lines.{fault_on, line_fault, too_long};
+//! Where a head ends: behind the first empty line, where CR LF ends each line, and the first is one of a request.
+ghost use Rattle.std.specs.Prelude.{◌≡◌, ◌<◌, IsTrue};
+ghost use Rattle.messages.specs.Lines.{fault_on, has_version_byte, is_return, line_fault, names_other, too_long, turn_fault};
 
 use crate::bad_head::BadHead;
 use crate::head::MAX_HEAD;
 use codec::{Scan, ScanStep};
+use httparse::{is_method_token, is_uri_token};
 
 /// What stands before the next byte of a head.
 #[derive(Clone, Copy, Debug, Drop)]
@@ -13,9 +14,15 @@ pub enum Before {
     Start,
     /// A CR behind that.
     StartReturn,
-    /// A byte of the first line.
-    First,
-    /// A CR behind such.
+    /// A byte of the method.
+    Method,
+    /// The space behind that.
+    Space,
+    /// A byte of the target.
+    Target,
+    /// The space behind that, and so many bytes of the version; and whether its first digit is another than 1.
+    Version(u8, bool),
+    /// A CR behind that.
     FirstReturn,
     /// The end of a line.
     Feed,
@@ -43,21 +50,38 @@ impl Scan for Lines {
         Before::Start
     }
 
+    #[inline(always)]
     fn turn(&self, before: Before, byte: u8) -> ScanStep<Before> {
         match before {
             Before::Start => match byte {
+                _ if is_method_token(byte) => ScanStep::More(Before::Method),
                 b'\r' => ScanStep::More(Before::StartReturn),
-                b'\n' => ScanStep::Bad,
-                _ => ScanStep::More(Before::First),
+                _ => ScanStep::Bad,
             },
             Before::StartReturn => match byte {
                 b'\n' => ScanStep::More(Before::Start),
                 _ => ScanStep::Bad,
             },
-            Before::First => match byte {
-                b'\r' => ScanStep::More(Before::FirstReturn),
-                b'\n' => ScanStep::Bad,
-                _ => ScanStep::More(Before::First),
+            Before::Method => match byte {
+                _ if is_method_token(byte) => ScanStep::More(Before::Method),
+                b' ' => ScanStep::More(Before::Space),
+                _ => ScanStep::Bad,
+            },
+            Before::Space => match byte {
+                _ if is_uri_token(byte) => ScanStep::More(Before::Target),
+                _ => ScanStep::Bad,
+            },
+            Before::Target => match byte {
+                _ if is_uri_token(byte) => ScanStep::More(Before::Target),
+                b' ' => ScanStep::More(Before::Version(0, false)),
+                _ => ScanStep::Bad,
+            },
+            Before::Version(at, other) => match byte {
+                _ if has_version_byte(at, byte) => {
+                    ScanStep::More(Before::Version(at + 1, other || at == 5 && byte != b'1'))
+                }
+                b'\r' if at == 8 && !other => ScanStep::More(Before::FirstReturn),
+                _ => ScanStep::Bad,
             },
             Before::FirstReturn => match byte {
                 b'\n' => ScanStep::More(Before::Feed),
@@ -99,6 +123,17 @@ impl Scan for Lines {
     ghost small = { λ _. lines_small };
 }
 
+// Whether a version goes on with this byte, behind so many: `HTTP/`, a digit, a dot, a digit.
+fn has_version_byte(at: u8, byte: u8) -> bool
+    ensures value { result ≡ has_version_byte at byte }
+    ensures few { IsTrue result → at < 8 }
+{
+    match at {
+        5 | 7 => byte.is_ascii_digit(),
+        _ => at < 7 && b"HTTP/0."[at as usize] == byte,
+    }
+}
+
 /// What is wrong with these lines, where they can't become those of a head.
 pub(crate) fn line_fault(bytes: &[u8]) -> BadHead
     ensures { result ≡ line_fault bytes.now }
@@ -116,20 +151,49 @@ fn text_fault(text: &[u8]) -> BadHead
             ScanStep::More(next) => {
                 place = next;
             }
-            ScanStep::Sized(_) => return BadHead::BareEnd,
-            ScanStep::Bad => return BadHead::BareEnd,
+            ScanStep::Sized(_) => return turn_fault(place, *byte),
+            ScanStep::Bad => return turn_fault(place, *byte),
         }
     }
     too_long(place)
+}
+
+// What is wrong where this byte goes no further.
+fn turn_fault(place: Before, byte: u8) -> BadHead
+    ensures { result ≡ turn_fault place byte }
+{
+    if byte == b'\n' || is_return(place) {
+        BadHead::BareEnd
+    } else if names_other(place) && byte == b'\r' {
+        BadHead::Version
+    } else {
+        BadHead::Refused
+    }
+}
+
+fn is_return(place: Before) -> bool
+    ensures { result ≡ is_return place }
+{
+    matches!(
+        place,
+        Before::StartReturn | Before::FirstReturn | Before::Return | Before::EmptyReturn
+    )
+}
+
+fn names_other(place: Before) -> bool
+    ensures { result ≡ names_other place }
+{
+    match place {
+        Before::Version(at, other) => at == 8 && other,
+        _ => false,
+    }
 }
 
 fn too_long(place: Before) -> BadHead
     ensures { result ≡ too_long place }
 {
     match place {
-        Before::Start | Before::StartReturn | Before::First | Before::FirstReturn => {
-            BadHead::LongLine
-        }
         Before::Feed | Before::Text | Before::Return | Before::EmptyReturn => BadHead::LongHead,
+        _ => BadHead::LongLine,
     }
 }

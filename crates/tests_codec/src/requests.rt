@@ -198,7 +198,7 @@ fn passes_messages(rt: HostRuntime) -> Result<(), Fail> {
 }
 
 // What comes in place of a head, and the name of what is wrong: so often a text between two others.
-static NO_HEADS: [(&'static [u8], usize, &'static [u8], &'static [u8], BadHead); 6] = [
+static NO_HEADS: [(&'static [u8], usize, &'static [u8], &'static [u8], BadHead); 10] = [
     (
         b"GET / HTTP/1.1\n",
         1,
@@ -241,6 +241,10 @@ static NO_HEADS: [(&'static [u8], usize, &'static [u8], &'static [u8], BadHead);
         b"",
         BadHead::CutShort(34),
     ),
+    (b"SSH-2.0-x\r\n", 0, b"", b"", BadHead::Refused),
+    (b"\x16\x03\x01", 0, b"", b"", BadHead::Refused),
+    (b"GET / HTTP/2.0\r", 0, b"", b"", BadHead::Version),
+    (b"GET / HTTP/1.9\r", 0, b"", b"", BadHead::CutShort(15)),
 ];
 
 fn comes(
