@@ -229,7 +229,11 @@ row "GET / HTTP/1.0\r\nConnection: keep-alive\r\n\r\n$G" '200:0 200:0'
 row "${P}Expect: 100-continue\r\nContent-Length: 5\r\n\r\nhello$G" '100 200:5 200:0'
 row "${P}Expect: 100-continue\r\n\r\n$G" '200:0 200:0'
 row "${P}Expect:\r\n\r\n$G" '200:0 200:0'
-for other in x '100-continue=1' '100-continue, 101-continue'; do
+for list in '100-continue,' ', 100-continue' '100-continue ,,\t100-CONTINUE'; do
+    row "${P}Expect: $list\r\nContent-Length: 5\r\n\r\nhello$G" '100 200:5 200:0'
+done
+row "${P}Expect: ,\r\nContent-Length: 5\r\n\r\nhello$G" '200:5 200:0'
+for other in x '100-continue=1' '100-continue, 101-continue' ', x' '100-continue 100-continue'; do
     row "${P}Expect: $other\r\n\r\n$G" '417 200:0'
 done
 row "${P}Expect: x\r\nContent-Length: 5\r\n\r\nhello$G" '417 200:0'

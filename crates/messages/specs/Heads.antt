@@ -1,5 +1,6 @@
 -- Heads of requests, and what they say of the body.
 use Rattle.std.specs.Prelude.{◌≡◌, ◌⊎◌, ◌≢◌, ℕ, ◌<◌, ◌≤◌, ◌==◌, ◌↔◌, ◌&&◌, ◌||◌, not, nat_lt, Bool, false, List, [], codes, length, map, All, IsTrue, Option, None, Some, Result, Ok}
+use Rattle.std.specs.List.{list_all}
 use Rattle.codec.specs.declared.HeaderError.{HeaderError}
 use Rattle.codec.specs.Grammar.{Begins, Grammar}
 use Rattle.http1.specs.declared.framing.Framing.{Framing}
@@ -7,7 +8,7 @@ use Rattle.http1.specs.declared.framing.Framing.TheVariants as framing
 use Rattle.http1.specs.declared.framing.FramingError.{FramingError}
 use Rattle.http1.specs.declared.framing.MethodKind.TheVariants as kind
 use Rattle.http1.specs.declared.fields.KnownFields.{KnownFields}
-use Rattle.http1.specs.Fields.{is_named}
+use Rattle.http1.specs.Fields.{elements, is_named}
 use Rattle.http1.specs.Framing.{method_kind, request_framing}
 use Rattle.http1.specs.Message.{has_one_host, known_of}
 use Rattle.http1.specs.Text.{eq_ignore_case}
@@ -40,9 +41,13 @@ keeps minor known = not known.close && (nat_lt 0 minor || known.keep_alive)
 abbrev pub expects : ℕ → KnownFields → Bool
 expects minor known = nat_lt 0 minor && known.expect_continue
 
--- the field is no `Expect`, or one of just `100-continue`, or of nothing: else a server may answer 417 (the same)
+-- an element of a list says nothing, or `100-continue`
+abbrev pub is_expected : List ℕ → Bool
+is_expected e = (length e == 0) || eq_ignore_case e (codes "100-continue")
+
+-- the field is no `Expect`, or one of just such elements: else a server may answer 417 (the same)
 abbrev pub is_met : List ℕ × List ℕ → Bool
-is_met h = not (is_named (codes "expect") h) || ((length h.1 == 0) || eq_ignore_case h.1 (codes "100-continue"))
+is_met h = not (is_named (codes "expect") h) || list_all is_expected (elements h.1)
 
 -- these bytes are just the head of a request of HTTP/1.0 or 1.1, which says so (RFC 9112, section 6): at most one field says
 -- where the body ends, with no coding but `chunked`, no tunnel begins behind it, its target is one, and it has one `Host`, which

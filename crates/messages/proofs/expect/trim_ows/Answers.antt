@@ -1,0 +1,8 @@
+-- What is trimmed at both ends.
+use Rattle.std.proofs.Common.{rules}
+use Rattle.httparse.specs.Grammar.{trim_ows}
+use Rattle.messages.proofs.expect.trim_ows.Goals as goal
+
+pub returns : goal.returns
+unfolding trim_ows
+returns c = search rules
