@@ -40,9 +40,9 @@ wrong() { # what is said of it
     failed=1
 }
 
-# The statuses, and for a 200 with a payload its length, in order.
+# The statuses, and for a 200 with a payload its length, in order; and in front that of the program, where it fails.
 answers() { # the file that came in
-    timeout 20 "$program" < "$1" > "$scratch/out" 2> "$scratch/err" || wrong "status $?"
+    timeout 20 "$program" < "$1" > "$scratch/out" 2> "$scratch/err" || printf 'status %d: ' $?
     tr -d '\r' < "$scratch/out" | awk '/^HTTP/ { printf "%s%s", sep, $2; sep = " " } /^ *[0-9]+$/ { printf ":%d", $1 }'
 }
 
