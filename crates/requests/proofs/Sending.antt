@@ -215,7 +215,8 @@ module _ {W : Type 0} {tells : W → StreamLog} {trace : W → W → Type 0} whe
 
   module _ {R : Type 0} (joins : (u v x : W) → trace u v → trace v x → trace u x) (P Q : List ℕ → Type 0) where
     -- more of that behind what the stream had handed out
-    pub WritesPromptly-on : (a m b : Both R W) {bytes : List ℕ} (sending : Result (Unit {0}) Error) → HandsOutInOrder a.0 bytes m.0
+    pub WritesPromptly-on : (a m b : Both R W) {bytes : List ℕ} (sending : Result (Unit {0}) Error)
+        → HandsOutInOrder a.0 bytes m.0
         → ((more : List ℕ) → P (m.0.left ++ more) → Q (bytes ++ (m.0.left ++ more)))
         → WritesPromptly tells trace Q a (Ok tt) m → WritesPromptly tells trace P m sending b
         → WritesPromptly tells trace Q a sending b
