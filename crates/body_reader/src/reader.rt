@@ -1,5 +1,5 @@
 //! The reader of a body.
-ghost use Rattle.std.specs.Prelude.{◌≡◌, ℕ, List, [], ◌-◌, ◌<◌, ◌≤◌, ◌↔◌, ◌++◌, length, min, take, vec_items, Err, IfErr, IfOk, IsOkAnd, IsTrue, MatchResult, Ok, OnOk};
+ghost use Rattle.std.specs.Prelude.{◌≡◌, ℕ, List, [], ◌+◌, ◌-◌, ◌<◌, ◌≤◌, ◌↔◌, ◌++◌, length, min, take, vec_capacity, vec_items, Err, IfErr, IfOk, IsOkAnd, IsTrue, MatchResult, Ok, OnOk};
 ghost use Rattle.std.specs.Borrow.{Lends, sem};
 ghost use Rattle.std.specs.Fn.{FnReturnsAt};
 ghost use Rattle.body_reader.specs.contracts.reader.BodyReader.{the_row};
@@ -306,6 +306,8 @@ impl<R: TellRead, C: Coding, P: ReaderPolicy> BodyReader<R, C, P> {
             × (0 < length payload → length (vec_items out.new) ≤ most)
             × (self.new.calls.reads.given ≡ self.old.calls.reads.given ++ payload) }
         ensures ended { OnOk result (IsBody (C.grammar self.old.coding) self.new.taken self.new.calls.reads.given) }
+        ensures full { IfErr result (λ e. e ≡ CollectError.Memory
+            → vec_capacity out.old < length (vec_items out.new) + self.new.known) }
         ensures collects { Collects R.remaining P.rules (C.grammar self.old.coding) most (FnReturnsAt F.Fn goes_on) self.old
             (vec_items out.old) result self.new (vec_items out.new) }
     {
