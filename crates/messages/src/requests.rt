@@ -283,8 +283,8 @@ impl<R: TellRead> Requests<R> {
         )
     }
 
-    /// Whether [`next`](Requests::next) answers without the stream: a whole head is buffered, or lines that can't become one. What
-    /// the lines behind the first say is looked at once the empty line came.
+    /// Whether [`next`](Requests::next) answers without the stream: a whole head is buffered, or lines that can't become one.
+    /// What the lines behind the first say is looked at once the empty line came.
     ///
     /// Who answers requests holds no answer back while the stream is waited for: where this is false, flush, and then call
     /// `next`.

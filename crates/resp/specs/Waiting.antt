@@ -36,8 +36,8 @@ TakesPart s item.Bulk payload Whole t = (s.left ≡ 1) × KeepsPart (record s { 
 TakesPart s item.Bulk payload (Bad why) t = ⊥
 TakesPart s i payload fed t = (fed ≡ Bad NoBulk) × (t ≡ s)
 
--- an array begins a request of so many parts, but of 1,024 at most, and of a number below 0 none; a line is one of one part, and an
--- empty line none; any other piece begins none
+-- an array begins a request of so many parts, but of 1,024 at most, and of a number below 0 none; a line is one of one part, and
+-- an empty line none; any other piece begins none
 abbrev pub BeginsRequest : Waiting → RespItem → List ℕ → Fed → Waiting → Type 0
 BeginsRequest s (item.Array (Some n)) payload fed t =
     ((n ≤ 1024) × (fed ≡ More) × (t ≡ awaiting n)) ⊎ ((1024 < n) × (fed ≡ Bad Count) × (t ≡ s))
