@@ -5,7 +5,7 @@ use std::fmt;
 /// Why what comes next is no head, so that a server can say what RFC 9110 and 9112 have for that.
 #[derive(Clone, Copy, Debug, PartialEq, Eq, Drop)]
 pub enum BadHead {
-    /// A CR or an LF is none of a CR LF that ends a line. 400.
+    /// An LF, or what follows a CR, is none of a CR LF that ends a line. 400.
     BareEnd,
     /// The first line doesn't end within as many bytes as a head may have, with the empty ones in front. 414.
     LongLine,
@@ -16,7 +16,7 @@ pub enum BadHead {
     ManyFields,
     /// The stream ended within it, behind so many bytes. These may be empty lines alone, which say nothing.
     CutShort(usize),
-    /// The first line names a version of HTTP other than 1. 505.
+    /// The first line ends in a version of HTTP other than 1. 505.
     Version,
     /// It is a `CONNECT`, behind which a tunnel would begin. 501.
     Tunnel,

@@ -152,6 +152,7 @@ impl<R: Tell> Body<R> {
         ensures ended { IsTrue result ↔ IsBody (body_rules self.now.body.coding) self.now.body.taken
             self.now.body.calls.reads.given }
     {
+        // Says that the reader is whole, as in other calls.
         let _ = self.reader.get_ref();
         self.reader.is_done()
     }

@@ -68,6 +68,7 @@ fn lines_fault(text: &[u8], limits: Limits) -> BadHead
     if has_many_lines(text, limits) {
         return BadHead::ManyFields;
     }
+    // A reader of lines refused another version already; who calls `read_head` didn't.
     if has_other_version(&text[..first_len(text)]) {
         BadHead::Version
     } else {

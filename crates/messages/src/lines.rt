@@ -151,8 +151,7 @@ fn text_fault(text: &[u8]) -> BadHead
             ScanStep::More(next) => {
                 place = next;
             }
-            ScanStep::Sized(_) => return turn_fault(place, *byte),
-            ScanStep::Bad => return turn_fault(place, *byte),
+            ScanStep::Sized(_) | ScanStep::Bad => return turn_fault(place, *byte),
         }
     }
     too_long(place)

@@ -51,14 +51,14 @@ abbrev pub trimmed : List ℕ → List ℕ
 trimmed text = let front = drop (prefix_len is_ascii_whitespace text) text in
     take (length front - suffix_len is_ascii_whitespace front) front
 
--- what stands before the first such byte, and what behind it
+-- what stands before the first such byte, and what behind it, without white space around that
 abbrev pub as_pair : ℕ → List ℕ → Option (List ℕ × List ℕ)
 as_pair byte text = option_map (λ at. (take at text, trimmed (drop (at + 1) text))) (position (λ here. here == byte) text)
 
 -- of parts, those that are a name and what is said of it, what the first of this name says, whatever the case of its letters
 abbrev pub first_among : (List ℕ → Option (List ℕ × List ℕ)) → List ℕ → List (List ℕ) → Option (List ℕ)
-first_among as_pair name parts =
-    option_map (λ pair. pair.1) (find (λ pair. str_eq_ignore_ascii_case pair.0 name) (filter_map as_pair parts))
+first_among pair_of name parts =
+    option_map (λ pair. pair.1) (find (λ pair. str_eq_ignore_ascii_case pair.0 name) (filter_map pair_of parts))
 
 -- the value of the first field of this name, which stands before a colon
 abbrev pub field_of : List ℕ → List ℕ → Option (List ℕ)

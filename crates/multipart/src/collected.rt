@@ -61,8 +61,8 @@ impl Collected {
         }
     }
 
-    // Takes a further piece, unless the head would have more bytes than it may, or none begins so. No byte is searched again that
-    // can't begin a boundary.
+    // Takes a further piece, unless the head would have more bytes than it may, or none begins so. Of what was searched only as
+    // many bytes are searched again as a boundary has.
     fn take(
         &mut self,
         piece: &[u8],

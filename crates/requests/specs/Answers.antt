@@ -35,7 +35,7 @@ use Rattle.requests.specs.declared.Ending.TheVariants as stop
 use Rattle.requests.specs.declared.Ending.TheVariants.{Over, Unread}
 use Rattle.requests.specs.declared.taking.Untaken.{Untaken}
 use Rattle.requests.specs.declared.taking.Untaken.TheVariants.{Body, Large, Unsent, Many}
-use Rattle.requests.specs.Large.{IsAwaited, TurnsLarge, is_large}
+use Rattle.requests.specs.Large.{IsAwaited, TurnsLarge, is_large, usual_rules}
 use Rattle.requests.specs.Sending.{Both, SendsForRoom, SendsHeld, WritesPromptly}
 use Rattle.requests.specs.Texts.{answered, called, early_refusal, is_called, is_known, refusal, refusal_of}
 
@@ -56,7 +56,7 @@ stream_in b = unbuffered b.body.reader
 -- the whole body was taken, which isn't too large, with so much payload
 abbrev pub TakesWhole : {S : Type 0} → (S → Option (List ℕ)) → InBody S → Unbuffered S → ℕ → Type 0
 TakesWhole remaining b t len = (wire : List ℕ) × (payload : List ℕ) × StreamWent remaining (stream_in b) wire t
-    × IsBody (body_rules (coding_of usual b.said.extent)) wire payload × (len ≡ length payload)
+    × IsBody (usual_rules b.said.extent) wire payload × (len ≡ length payload)
     × (is_large b.said.extent (length wire) (length payload) ≡ false)
 
 -- how often the stream gave nothing, though it was asked for something; and what it failed with

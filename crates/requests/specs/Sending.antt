@@ -88,7 +88,7 @@ module _ {R W : Type 0} (tells : W → StreamLog) (trace : W → W → Type 0) (
     pub between : List (Both R W)
     pub steps : StepsAlong a between answer b
 
-  -- and nothing was written but what had been held
+  -- and nothing was written: what had been held may have been sent
   pub record WritesPromptly (a : Both R W) (sending : Result (Unit {0}) Error) (b : Both R W) : Type 0 where
     pub puts : PutsText tells trace a.1 [] sending b.1
     pub prompt : Prompt a sending b
