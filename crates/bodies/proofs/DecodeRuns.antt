@@ -1,10 +1,11 @@
 -- What a whole run of `decode` comes to.
-use Rattle.std.proofs.Common.{◌≡◌, ℕ, inl, inr, List, [], ◌++◌, length, length-append, ◌≤◌, Option, Result, Ok, Err, OnOk, refl, sym, ap, subst, ◌∙◌, arith, append_assoc, append-nil}
+use Rattle.std.proofs.Common.{◌≡◌, ◌⊎◌, ℕ, inl, inr, List, [], ◌++◌, length, length-append, ◌≤◌, Option, Result, Ok, Err, OnOk, refl, sym, ap, subst, ◌∙◌, arith, append_assoc, append-nil}
 use Rattle.std.specs.List.{concat}
 use Rattle.std.proofs.lemmas.List.{nil_from_length}
 use Rattle.std.specs.Global.{Vec}
 use Rattle.buffer_redux.specs.ReaderLaws.{ReadsInOrder-fresh}
 use Rattle.body_reader.specs.CodingLaws.{Leads-none}
+use Rattle.chunked.specs.declared.error.Malformed.{Malformed}
 use Rattle.chunked.specs.declared.place.Place.TheVariants.{Line}
 use Rattle.forward.specs.Forward.{ForwardAnswers, Forwarded, StopsBy}
 use Rattle.forward.specs.ForwardLaws.{ForwardedFirst-all}
@@ -12,9 +13,9 @@ use Rattle.forward.specs.PromptLaws.{RunsPromptly-none}
 use Rattle.forward.specs.StreamsLaws.{WriteGaveUp-so}
 use Rattle.forward.specs.declared.error.Cause.{Cause}
 use Rattle.forward.specs.declared.error.Cause.TheVariants as cause
-use Rattle.bodies.specs.Words.{Error, Buffered, StreamLog, StdPolicy, IsBodyOfChunks, TookWholeBody, begun, chunked, Limits, FilterRules, AllSent, RefusedBeforeCalls, MetNoFault, RunError}
+use Rattle.bodies.specs.Words.{Error, Buffered, StreamLog, StdPolicy, IsBodyOfChunks, TookWholeBody, BreaksAt, begun, chunked, Limits, FilterRules, AllSent, RefusedBeforeCalls, MetNoFault, RunError}
 use Rattle.bodies.specs.Decode.{DecodeRan, DecodesBody, IsBodyPart, IsDue}
-use Rattle.bodies.specs.Decoding.{MayDecode, PayloadEnds, decoding_rules, held_payload}
+use Rattle.bodies.specs.Decoding.{MayDecode, NoneBuffered, PayloadEnds, decoding_rules, held_payload}
 use Rattle.bodies.specs.DecodingLaws.{none_held}
 use Rattle.bodies.specs.Filters.{IsErrorOf}
 use Rattle.bodies.specs.FiltersLaws.{each_some}
@@ -77,6 +78,21 @@ module _ {R W : Type 0} (remaining : R → Option (List ℕ)) (limits : Limits) 
       };
     }
 
+    abbrev due : IsDue limits t.source.taken (moved.sent ++ moved.unsent)
+    due = record {
+      place = t.source.place;
+      part = subst (λ l. IsBodyPart limits t.source.taken l t.source.place) (sym parts) part.part;
+    }
+
+    -- where no payload is buffered, none follows
+    none_left : NoneBuffered t.source → IsBodyOfChunks limits t.source.taken (moved.sent ++ moved.unsent)
+        ⊎ ((t.source.reader.block.bytes ≡ [])
+        ⊎ ((why : Malformed) × BreaksAt limits t.source.place t.source.taken t.source.reader.block.bytes why))
+    none_left (inl whole) = inl (subst (IsBodyOfChunks limits t.source.taken) (sym parts)
+        (rw (over.moves.hands.went.coding, over.moves.hands.went.handed) at whole))
+    none_left (inr (inl left)) = inr (inl left)
+    none_left (inr (inr (why, breaks))) = inr (inr (why, rw over.moves.hands.went.coding at breaks))
+
     -- there are no more payloads than bytes of them
     counted : count ≤ length (moved.sent ++ moved.unsent)
     counted = omega (
@@ -137,13 +153,15 @@ module _ {R W : Type 0} (remaining : R → Option (List ℕ)) (limits : Limits) 
       let over = ForwardedFirst-all rules refl first in
       subst (λ x. Ran (Err x)) (sym is) (
         moved count over,
-        subst (IsDue limits t.source.taken) (sym (parts count over)) (part count over),
-        WriteGaveUp-so (λ none. ap (λ l. l ++ held_payload t) (nil_from_length t.target.block.bytes none.0)
-            ∙ none_held remaining t none.1.0) failed,
+        due count over,
+        WriteGaveUp-so (λ none. (
+          ap (λ l. l ++ held_payload t) (nil_from_length t.target.block.bytes none.1) ∙ none_held remaining t none.2.0,
+          none_left count over none.2.1,
+        )) failed,
       )
   stopped count cause.Count e (over, large, met) is = subst (λ x. Ran (Err x)) (sym is.2) (
     moved count over,
-    subst (IsDue limits t.source.taken) (sym (parts count over)) (part count over),
+    due count over,
     inl (record { other = is.1; large = omega (arith, large, counted count over); met = met }),
   )
 

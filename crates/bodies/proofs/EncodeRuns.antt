@@ -149,10 +149,11 @@ module _ {R W : Type 0} (remaining : R → Option (List ℕ)) (trace : W → W �
             | inl all ↦ inr (is_ended count over end.end v end.taken all left once)
             | inr nothing ↦ inl (not_ended count over end.end v end.taken nothing)
           ],
-          WriteGaveUp-after met (record {
-            failed = record { reader = OnlyInterrupts-none t.source.log.reads.faults; writer = end.answers.1.2 };
-            often = end.answers.1.3;
-          }),
+          WriteGaveUp-so (λ none. (none.0, left, inr (is_ended count over end.end v end.taken none.1 left once)))
+              (WriteGaveUp-after met (record {
+                failed = record { reader = OnlyInterrupts-none t.source.log.reads.faults; writer = end.answers.1.2 };
+                often = end.answers.1.3;
+              })),
         )
 
   -- the run was stopped, and no end was taken in
@@ -176,7 +177,11 @@ module _ {R W : Type 0} (remaining : R → Option (List ℕ)) (trace : W → W �
       subst Ran (sym is) (
         moved count over [] t.target.writer still,
         inl (not_ended count over [] t.target.writer still refl),
-        WriteGaveUp-so (λ none. nil_from_length t.target.writer.block.bytes none.0) failed,
+        WriteGaveUp-so (λ none. (
+          nil_from_length t.target.writer.block.bytes none.1,
+          none.2,
+          elim none.3 [ inl never ↦ inl never.zero_reads | inr closed ↦ absurd closed ],
+        )) failed,
       )
   stopped count cause.Count e (over, large, met) is = subst Ran (sym is.2) (
     moved count over [] t.target.writer still,

@@ -122,7 +122,7 @@ module _ {W : Type 0} (tells : W → StreamLog) (trace : W → W → Type 0) whe
         → MatchResult said (λ _. (body_end [] ≡ body_end []) × AllSent v × MetInterrupts u.log.writes v.log.writes)
         (λ why. ((body_end [] ≡ body_end []) ⊎ (body_end [] ≡ []))
         × ((e : Error) × (why ≡ Write e) × SendErrorCaused u.log.writes v.log.writes e
-        × (IsInterrupt e → FaultsOften u.log.writes v.log.writes ⊎ (v.block.bytes ≡ []))))
+        × (IsInterrupt e → FaultsOften u.log.writes v.log.writes ⊎ ((v.block.bytes ≡ []) × (body_end [] ≡ body_end [])))))
         → EndsBody u said v
     ends answer f said same_count answers =
         let flush = WasFlushed-writes m v f in
@@ -169,7 +169,7 @@ module _ {W : Type 0} (tells : W → StreamLog) (trace : W → W → Type 0) whe
             ap length row.ended.only.faults,
             length-append u.log.writes.faults row.ended.interrupts,
           ))
-          | inr none ↦ inr (nil_from_length v.block.bytes none)
+          | inr none ↦ inr (nil_from_length v.block.bytes none, refl)
         ],
       ),
     )

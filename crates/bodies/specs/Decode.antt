@@ -2,6 +2,7 @@
 use Rattle.std.specs.Prelude.{◌≡◌, ℕ, ◌-◌, ◌^◌, ◌<◌, ◌⊎◌, List, [], ◌++◌, length, min, Result, Ok, Err}
 use Rattle.body_reader.specs.Coding.{Leads}
 use Rattle.chunked.specs.Place.{IsPlace}
+use Rattle.chunked.specs.declared.error.Malformed.{Malformed}
 use Rattle.chunked.specs.declared.place.Place.{Place}
 use Rattle.chunked.specs.declared.place.Place.TheVariants.{Line}
 use Rattle.bodies.specs.Words.{failure_count, StreamLog, IsBodyOfChunks, BreaksAt, chunked, Limits, RunError, RunsPromptly, MetNoFault, ReadFailed, WriteGaveUp, OverCount, RefusedBeforeCalls, GaveNothing}
@@ -21,6 +22,13 @@ pub record IsDue (limits : Limits) (bytes due : List ℕ) : Type 0 where
 -- how many bytes these are, as far as a `u64` counts
 abbrev pub counted_bytes : List ℕ → ℕ
 counted_bytes bytes = min (length bytes) (2 ^ 64 - 1)
+
+-- all payload that was given was received: none is unsent, and none follows in the rest, since the body ended, or nothing is
+-- left, or the next byte is wrong
+abbrev pub NoPayloadLeft : {limits : Limits} {read read' written written' : StreamLog} → (m : Moved read read' written written')
+    → IsDue limits m.taken (m.sent ++ m.unsent) → Type 0
+NoPayloadLeft {limits} m due = (m.unsent ≡ []) × (IsBodyOfChunks limits m.taken (m.sent ++ m.unsent)
+    ⊎ ((m.rest ≡ []) ⊎ ((why : Malformed) × BreaksAt limits due.place m.taken m.rest why)))
 
 -- what a run of `decode` did: at Ok all that was given is a body, and else its beginning. Where a read failed no payload that
 -- came is lost
@@ -43,8 +51,8 @@ DecodeRan limits read read' written written' (Err (Read e)) =
     (m : MovedAll read read' written written') × IsDue limits m.moved.taken m.moved.sent × (m.moved.rest ≡ [])
     × ReadFailed e read read' written written'
 DecodeRan limits read read' written written' (Err (Write e)) =
-    (m : Moved read read' written written') × IsDue limits m.taken (m.sent ++ m.unsent)
-    × WriteGaveUp (m.unsent ≡ []) e read read' written written'
+    (m : Moved read read' written written') × (due : IsDue limits m.taken (m.sent ++ m.unsent))
+    × WriteGaveUp (NoPayloadLeft m due) e read read' written written'
 DecodeRan limits read read' written written' (Err (Io e)) =
     (m : Moved read read' written written') × IsDue limits m.taken (m.sent ++ m.unsent)
     × (OverCount e (length (m.sent ++ m.unsent)) read read' written written' ⊎ RefusedBeforeCalls e read read' written written')

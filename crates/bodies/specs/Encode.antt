@@ -19,7 +19,7 @@ pub record EndsBody {W : Type 0} (u : Buffered W StdPolicy) (answer : Result (Un
   pub answers : MatchResult answer (λ _. (end ≡ body_end []) × AllSent v × MetInterrupts u.log.writes v.log.writes)
       (λ why. ((end ≡ body_end []) ⊎ (end ≡ []))
       × ((e : Error) × (why ≡ Write e) × SendErrorCaused u.log.writes v.log.writes e
-      × (IsInterrupt e → FaultsOften u.log.writes v.log.writes ⊎ (v.block.bytes ≡ []))))
+      × (IsInterrupt e → FaultsOften u.log.writes v.log.writes ⊎ ((v.block.bytes ≡ []) × (end ≡ body_end [])))))
   pub room : v.block.capacity ≡ u.block.capacity
   pub writes : WritesOn u.log.writes v.log.writes
   pub few : FewFaults (failure_count answer) u.log.writes v.log.writes
@@ -58,6 +58,12 @@ pub record IsEnded {read read' written written' : StreamLog} (m : Moved read rea
   pub all : m.rest ≡ []
   pub ended : read'.reads.zero_reads ≡ read.reads.zero_reads + 1
 
+-- all that became of what was given was received: nothing of that is unsent, or left to become a chunk; and where the end was
+-- told, the body has its own
+abbrev pub NoChunkLeft : {read read' written written' : StreamLog} → Moved read read' written written' → Type 0
+NoChunkLeft {read} {read'} m = (m.unsent ≡ []) × (m.rest ≡ [])
+    × ((read'.reads.zero_reads ≡ read.reads.zero_reads) ⊎ IsEnded m)
+
 -- what a run of `encode` did: at Ok a body was received. Where a read failed no byte that came is lost. Any other fault is a
 -- writer's, or a buffer was refused before the run began, or it ended at its count, and then no body was begun that has an end
 abbrev pub EncodeRan : StreamLog → StreamLog → StreamLog → StreamLog → Result (Unit {0}) RunError → Type 0
@@ -68,7 +74,7 @@ EncodeRan read read' written written' (Err (Read e)) =
     × ReadFailed e read read' written written'
 EncodeRan read read' written written' (Err (Write e)) =
     (m : Moved read read' written written') × (IsUnended m ⊎ IsEnded m)
-    × WriteGaveUp (m.unsent ≡ []) e read read' written written'
+    × WriteGaveUp (NoChunkLeft m) e read read' written written'
 EncodeRan read read' written written' (Err (Io e)) =
     (m : Moved read read' written written') × IsUnended m
     × (OverCount e (length m.taken) read read' written written' ⊎ RefusedBeforeCalls e read read' written written')

@@ -10,7 +10,7 @@ use Rattle.forward.specs.Forward.{NoneFailed, flushed_last}
 use Rattle.forward.specs.Link.{Ask, EndsInterrupted, Goes, LinkFlushes, LinkPasses, Linked, NoneGaveUp, NotAsked}
 use Rattle.forward.specs.Steps.{AlsoAsked, AskedFrom, AskedTo, ForwardsNext, GivesUp, GoesAhead, IsQuiet, OnTrue, ReadsOnlyInterrupted, StepAnswers, TakesTurn}
 use Rattle.forward.specs.Streams.{ReadGaveUp}
-use Rattle.forward.specs.StreamsLaws.{MetNoFault-joins, ReadFailed-after, WriteGaveUp-after}
+use Rattle.forward.specs.StreamsLaws.{MetNoFault-joins, ReadFailed-after, WriteGaveUp-after, WriteGaveUp-so}
 use Rattle.forward.specs.Target.{FlushesOnce, bytes_taken, failure_count}
 use Rattle.forward.specs.declared.error.AskError.{AskError}
 use Rattle.forward.specs.declared.error.AskError.TheVariants as asked
@@ -71,7 +71,12 @@ module _ {T W : Type 0} (rules : FilterRules T W) where
       behind (Err (Write e)) once next = (
         first_joins rules lawful first.filter s.filter t.filter count before.forwarded next.0,
         elim next.1 [
-          | inl failed ↦ inl (WriteGaveUp-after before.met failed)
+          | inl failed ↦ inl (WriteGaveUp-after before.met (WriteGaveUp-so (λ none. (
+            none.0,
+            none.1,
+            none.2,
+            StaysOpen-joins rules first.filter s.filter t.filter before.still once none.3,
+          )) failed))
           | inr (met, refused) ↦ inr (met_on met, refused)
         ],
       )
@@ -245,7 +250,7 @@ module _ {T W : Type 0} (rules : FilterRules T W) where
             failed = record { reader = unread p.flushes.told; writer = p.flushes.wrote.ended.0 };
             often = λ is. elim (p.flushes.wrote.ended.1 is) [
               | inl many ↦ inl many
-              | inr none ↦ inr (none, p.flushes.lacks lacks)
+              | inr none ↦ inr (refl, none, p.flushes.lacks lacks, StaysOpen-none rules s.filter m.filter p.flushes.told)
             ];
           }),
         );

@@ -49,7 +49,7 @@ module _ {T W : Type 0} (rules : FilterRules T W) where
     pub none_forwarded : (s t : T) → Moves rules s [] [] t → Forwarded rules 0 s t
     none_forwarded s t moves = record { payloads = []; moves = moves; all = refl }
 
-    pub none_first : (s t : T) (lost : List (List ℕ)) → Moves rules s lost [] t → length lost ≤ rules.loses
+    abbrev pub none_first : (s t : T) (lost : List (List ℕ)) → Moves rules s lost [] t → length lost ≤ rules.loses
         → ForwardedFirst rules 0 s t
     none_first s t lost moves few = record { payloads = []; lost = lost; moves = moves; all = refl; few = few }
 
@@ -66,7 +66,7 @@ module _ {T W : Type 0} (rules : FilterRules T W) where
         let both = forwarded_joins a b c n 0 first second in
         record { payloads = both.payloads; moves = both.moves; all = omega (arith, both.all) }
 
-    pub first_joins : (a b c : T) (n : ℕ) → Forwarded rules n a b → ForwardedFirst rules 0 b c → ForwardedFirst rules n a c
+    abbrev pub first_joins : (a b c : T) (n : ℕ) → Forwarded rules n a b → ForwardedFirst rules 0 b c → ForwardedFirst rules n a c
     first_joins a b c n first second = record {
       payloads = first.payloads ++ second.payloads;
       lost = second.lost;

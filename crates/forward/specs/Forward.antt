@@ -1,9 +1,9 @@
 -- What `forward` promises.
-use Rattle.std.specs.Prelude.{◌≡◌, ℕ, ◌+◌, ◌^◌, ◌≤◌, ◌⊎◌, List, ◌++◌, length, Result, Ok, Err}
+use Rattle.std.specs.Prelude.{◌≡◌, ℕ, ◌+◌, ◌^◌, ◌≤◌, ◌⊎◌, List, [], ◌++◌, length, Result, Ok, Err}
 use Rattle.std.specs.Option.{option_map_or}
 use Rattle.std.specs.Result.{result_err}
 use Rattle.std.specs.declared.io.Error.{Error}
-use Rattle.forward.specs.Filter.{FilterRules, Moves}
+use Rattle.forward.specs.Filter.{FilterRules, Moves, StaysOpen}
 use Rattle.forward.specs.Flushes.{FlushesSend}
 use Rattle.forward.specs.Link.{Goes, IsPrompt, Linked}
 use Rattle.forward.specs.Streams.{EndsOnce, MetNoFault, ReadFailed, WriteGaveUp}
@@ -37,12 +37,12 @@ module _ {T W : Type 0} (rules : FilterRules T W) where
     pub all : length payloads ≡ count
     pub few : length lost ≤ rules.loses
 
-  -- sending gave up, by the writer's own flush only where no payload is there either; or a payload was refused, and neither
-  -- stream failed
-  abbrev pub NotWritten : Error → T → T → Type 0
-  NotWritten e s t =
-      WriteGaveUp (((rules.target t).held ≡ 0) × rules.lacks t) e (rules.read s) (rules.read t) (rules.target s).log
-      (rules.target t).log
+  -- sending gave up, by the writer's own flush only where no payload was lost, none is there either, and the stream's end
+  -- wasn't just told; or a payload was refused, and neither stream failed
+  abbrev pub NotWritten : List (List ℕ) → Error → T → T → Type 0
+  NotWritten lost e s t =
+      WriteGaveUp ((lost ≡ []) × ((rules.target t).held ≡ 0) × rules.lacks t × StaysOpen rules s t) e (rules.read s)
+      (rules.read t) (rules.target s).log (rules.target t).log
       ⊎ (NoneFailed s t × rules.refused e t)
 
   -- what each cause says, behind which so many payloads went over. Where a read failed, it may be forwarded on
@@ -51,7 +51,7 @@ module _ {T W : Type 0} (rules : FilterRules T W) where
   StopsBy count s (Read e) t =
       Forwarded count s t × rules.waits t × rules.sent t × rules.fresh t
       × ReadFailed e (rules.read s) (rules.read t) (rules.target s).log (rules.target t).log
-  StopsBy count s (Write e) t = ForwardedFirst count s t × NotWritten e s t
+  StopsBy count s (Write e) t = (first : ForwardedFirst count s t) × NotWritten first.lost e s t
   StopsBy count s Count t = Forwarded count s t × (2 ^ 64 ≤ count + 1) × NoneFailed s t
 
   -- what an answer says

@@ -256,15 +256,16 @@ module _ {R W : Type 0} (remaining : R → Option (List ℕ)) (s t : Packing R W
   abbrev First : Type 0
   First = PackedFirst max s.source.pieces.reader.log t.source.pieces.reader.log s.target.writer.log t.target.writer.log
 
-  abbrev IsFirst : List (List ℕ) → Type 0
-  IsFirst p = (ran : First) × (ran.lines ≡ p) × (ran.unsent ≡ t.target.writer.block.bytes)
+  abbrev IsFirst : (p lost : List (List ℕ)) → Type 0
+  IsFirst p lost = (ran : First) × (ran.lines ≡ p) × (ran.unsent ≡ t.target.writer.block.bytes)
+      × (lost ≡ [] → ran.more ≡ rest t.source.pieces)
 
   module _ (p lost : List (List ℕ)) (over : Went (p ++ lost) p) where
     first_of : (text more : List ℕ) → over.bytes ≡ text ++ more → (has : HasLines text p) → All (Fits max) p
         → (has.last ≡ [])
         ⊎ ((more ++ rest t.source.pieces ≡ []) × GaveNothing s.source.pieces.reader.log t.source.pieces.reader.log)
-        → IsFirst p
-    first_of text more equal has fit whole =
+        → (lost ≡ [] → more ≡ []) → IsFirst p lost
+    first_of text more equal has fit whole none =
         let given = s.source.pieces.reader.log.reads.given in
         let left = rest t.source.pieces in (
           record {
@@ -280,28 +281,30 @@ module _ {R W : Type 0} (remaining : R → Option (List ℕ)) (s t : Packing R W
           },
           refl,
           refl,
+          λ is. ap (λ l. l ++ left) (none is),
         )
 
-    whole_lines : (front more : List ℕ) → over.bytes ≡ front ++ more → IsPieces (lined max) front p [] → IsFirst p
-    whole_lines front more equal whole =
+    whole_lines : (front more : List ℕ) → over.bytes ≡ front ++ more → IsPieces (lined max) front p []
+        → (lost ≡ [] → more ≡ []) → IsFirst p lost
+    whole_lines front more equal whole none =
         let all = all_ended max front p whole in
-        first_of (with_newlines p) more (equal ∙ ap (λ l. l ++ more) all.0) (with_ends_of p all.1) all.2 (inl refl)
+        first_of (with_newlines p) more (equal ∙ ap (λ l. l ++ more) all.0) (with_ends_of p all.1) all.2 (inl refl) none
 
-    all_lines : p ++ lost ≡ p → IsFirst p
+    all_lines : p ++ lost ≡ p → IsFirst p lost
     all_lines none = elim over.text [
       | inl whole ↦ whole_lines over.bytes [] (sym (append-nil over.bytes))
-          (subst (λ l. IsPieces (lined max) over.bytes l []) none whole)
+          (subst (λ l. IsPieces (lined max) over.bytes l []) none whole) (λ is. refl)
       | inr (has, ended) ↦
           let lines = subst (HasPieces (lined max) over.bytes) none has in
           first_of over.bytes [] (sym (append-nil over.bytes)) (lines_of max over.bytes p lines)
-          (all_fit max over.bytes p lines) (inr (ready.whole.ended ended, dry (over.dry ended)))
+          (all_fit max over.bytes p lines) (inr (ready.whole.ended ended, dry (over.dry ended))) (λ is. refl)
     ]
 
-  first : (p lost : List (List ℕ)) → Went (p ++ lost) p → IsFirst p
+  first : (p lost : List (List ℕ)) → Went (p ++ lost) p → IsFirst p lost
   first p [] over = all_lines p [] over (append-nil p)
   first p (next ∷ more) over =
       let (front, behind, equal, whole) = fronts (lined max) p next more over.bytes (texts (p ++ next ∷ more) p over) in
-      whole_lines p (next ∷ more) over front behind equal whole
+      whole_lines p (next ∷ more) over front behind equal whole (λ is. absurd (omega (arith, ap length is)))
 
   pub packed : (answer : Result ℕ (Stopped RunError)) (outcome : Result (Unit {0}) RunError)
       → MatchResult answer (λ _. IsOk outcome) (λ stopped. IsErrAnd outcome (IsErrorOf stopped.cause))
@@ -314,8 +317,14 @@ module _ {R W : Type 0} (remaining : R → Option (List ℕ)) (s t : Packing R W
         failed,
       ))
       (λ p lost over e failed.
-      let ran = first p lost over in
-      (ran.0, WriteGaveUp-so (λ none. ran.2 ∙ none) failed))
+      let ran = first p lost over in (
+        ran.0,
+        WriteGaveUp-so (λ none. (
+          ran.2 ∙ none.1,
+          subst (λ l. ¬ (Begins (lined max) l)) (sym (ran.3 none.0))
+              (subst (λ d. ¬ (Begins (lined d.max) (rest t.source.pieces))) over.decoder none.2),
+        )) failed,
+      ))
       (λ p lost over e much.
       let ran = first p lost over in (
         ran.0,

@@ -1,5 +1,5 @@
 -- What the outcome of a whole run over pieces comes to.
-use Rattle.std.proofs.Common.{ℕ, inl, inr, List, [], ◌++◌, length, false, Option, Result, Ok, Err, ◌≡◌, refl, sym, subst, arith}
+use Rattle.std.proofs.Common.{ℕ, inl, inr, List, [], ◌++◌, length, false, Option, Result, Ok, Err, ◌≡◌, refl, sym, ap, subst, ◌∙◌, arith}
 use Rattle.std.proofs.lemmas.Bool.{false≢true}
 use Rattle.std.proofs.lemmas.List.{nil_from_length}
 use Rattle.std.specs.Prelude.{IsErrAnd, IsOk, MatchResult}
@@ -8,7 +8,8 @@ use Rattle.forward.specs.declared.error.Cause.{Cause}
 use Rattle.forward.specs.declared.error.Cause.TheVariants as cause
 use Rattle.piece_filter.specs.PieceRuns.{Over, all_over, over_held, over_lost}
 use Rattle.piece_filter.specs.Pieces.{IsCoherent, PiecesEnd, Piecewise, grammar_of, held_of, piece_rules}
-use Rattle.frames.specs.Words.{Error, failure_count, IsOpen, rest, FilterRules, ForwardAnswers, NoneFailed, StopsBy, Stopped, AllSent, OverCount, ReadFailed, WriteGaveUp, RunError}
+use Rattle.piece_filter.specs.PiecesLaws.{none_held}
+use Rattle.frames.specs.Words.{Error, failure_count, Begins, IsOpen, rest, FilterRules, ForwardAnswers, NoneFailed, StopsBy, Stopped, AllSent, OverCount, ReadFailed, WriteGaveUp, RunError}
 use Rattle.frames.specs.Ending.{IsErrorOf}
 use Rattle.frames.specs.declared.error.RunError.TheVariants.{Read, Write, Io}
 
@@ -40,7 +41,8 @@ module _ {T R D X A W : Type 0} (remaining : R → Option (List ℕ)) (f : Piece
       → AllSent (f.target t) → (e : Error)
       → ReadFailed e (rules.read s) (rules.read t) (rules.target s).log (rules.target t).log → Ran (Err (Read e)))
       (write : (p lost : List (List ℕ)) → Went (p ++ lost) p → (e : Error)
-      → WriteGaveUp ((f.target t).block.bytes ≡ []) e (rules.read s) (rules.read t) (rules.target s).log (rules.target t).log
+      → WriteGaveUp ((lost ≡ []) × ((f.target t).block.bytes ≡ []) × ¬ (Begins (grammar_of f t) (rest (f.source t)))) e
+      (rules.read s) (rules.read t) (rules.target s).log (rules.target t).log
       → Ran (Err (Write e)))
       (full : (p lost : List (List ℕ)) → Went (p ++ lost) p → (e : Error)
       → OverCount e (length p) (rules.read s) (rules.read t) (rules.target s).log (rules.target t).log → Ran (Err (Io e))) where
@@ -53,7 +55,11 @@ module _ {T R D X A W : Type 0} (remaining : R → Option (List ℕ)) (f : Piece
     stopped count (cause.Write fault) e (first, inr refused) is = absurd (never fault refused.1)
     stopped count (cause.Write fault) e (first, inl failed) is = subst (λ x. Ran (Err x)) (sym is)
         (write first.payloads (first.lost ++ held_of f t) (over_lost remaining f s t fresh unread count first) fault
-        (WriteGaveUp-so (λ none. nil_from_length (f.target t).block.bytes none.0) failed))
+        (WriteGaveUp-so (λ none. (
+          ap (λ l. l ++ held_of f t) none.0 ∙ none_held remaining f t none.2.0,
+          nil_from_length (f.target t).block.bytes none.1,
+          none.2.1,
+        )) failed))
     stopped count cause.Count e (over, large, met) is = subst (λ x. Ran (Err x)) (sym is.2)
         (full over.payloads (held_of f t) (over_held remaining f s t fresh unread count over) is.0
         (record { other = is.1; large = omega (arith, large, over.all); met = met }))

@@ -6,6 +6,7 @@ use Rattle.std.specs.Prelude.{IsErrAnd, IsOk, MatchResult}
 use Rattle.std.specs.declared.io.ErrorKind.TheVariants.{OutOfMemory}
 use Rattle.codec.specs.NextPieceLaws.{MetEnd-once}
 use Rattle.forward.specs.PromptLaws.{RunsPromptly-none}
+use Rattle.forward.specs.StreamsLaws.{WriteGaveUp-so}
 use Rattle.forward.specs.declared.error.AskError.TheVariants as ask
 use Rattle.frame_reader.specs.Frames.{BeginsAbove}
 use Rattle.frame_reader.specs.Next.{FrameAnswer, Next, as_piece_answer}
@@ -191,7 +192,14 @@ module _ {R W : Type 0} (remaining : R → Option (List ℕ)) (s t : Unpacking R
         subst (λ d. IsOpen (framed d.max) (rest t.source)) over.decoder open',
         failed,
       ))
-      (λ p lost over e failed. (first p lost over, failed))
+      (λ p lost over e failed. (
+        first p lost over,
+        WriteGaveUp-so (λ none. (
+          none.0,
+          none.1,
+          subst (λ d. ¬ (Begins (framed d.max) (rest t.source))) over.decoder none.2,
+        )) failed,
+      ))
       (λ p lost over e much. (first p lost over, inl much))
 
 -- a buffer was refused

@@ -1,7 +1,7 @@
 -- What a run of `pack` moves from a reader to a writer.
 use Rattle.std.specs.Prelude.{◌≡◌, ℕ, ◌⊎◌, List, [], ◌++◌, length, Result, Ok, Err}
 use Rattle.line_reader.specs.Lines.{BeginsTooLong}
-use Rattle.frames.specs.Words.{failure_count, All, StreamLog, Fits, frames, FitsLine, IsLine, HasLines, with_newlines, RunError, RunsPromptly, MetNoFault, ReadFailed as AReadFailed, WriteGaveUp, OverCount, RefusedBeforeCalls, GaveNothing, ReceivedFlushed}
+use Rattle.frames.specs.Words.{failure_count, All, StreamLog, Begins, lined, Fits, frames, FitsLine, IsLine, HasLines, with_newlines, RunError, RunsPromptly, MetNoFault, ReadFailed as AReadFailed, WriteGaveUp, OverCount, RefusedBeforeCalls, GaveNothing, ReceivedFlushed}
 use Rattle.frames.specs.declared.error.RunError.TheVariants.{TooLong, Truncated, Read, Write, Io}
 
 -- what is due of these bytes: the frames of all whole lines in them
@@ -39,6 +39,11 @@ pub record PackedFirst (most : ℕ) (read read' written written' : StreamLog) : 
   pub given : read'.reads.given ≡ read.reads.given ++ (text ++ more)
   pub received : written'.writes.received ++ unsent ≡ written.writes.received ++ frames lines
 
+-- the frames of all lines were received: none is unsent, and what wasn't taken begins with no whole line
+abbrev pub NoLineLeft : {most : ℕ} {read read' written written' : StreamLog} → PackedFirst most read read' written written'
+    → Type 0
+NoLineLeft {most} first = (first.unsent ≡ []) × ¬ (Begins (lined most) first.more)
+
 -- what a run of `pack` did: at Ok all that was given is a text of lines that fit, and all their frames were received and flushed.
 -- Where a read failed no line that came is lost. Any other fault is a writer's, or a buffer was refused
 -- before the run began, or it ended at its count
@@ -52,7 +57,7 @@ PackRan most read read' written written' (Err Truncated) = ⊥
 PackRan most read read' written written' (Err (Read e)) =
     PackedLines (FitsLine most) most read read' written written' × AReadFailed e read read' written written'
 PackRan most read read' written written' (Err (Write e)) =
-    (first : PackedFirst most read read' written written') × WriteGaveUp (first.unsent ≡ []) e read read' written written'
+    (first : PackedFirst most read read' written written') × WriteGaveUp (NoLineLeft first) e read read' written written'
 PackRan most read read' written written' (Err (Io e)) =
     (first : PackedFirst most read read' written written')
     × (OverCount e (length first.lines) read read' written written' ⊎ RefusedBeforeCalls e read read' written written')

@@ -1,7 +1,7 @@
 -- What a run of `unpack` moves from a reader to a writer.
 use Rattle.std.specs.Prelude.{◌≡◌, ℕ, List, [], ◌++◌, length, ◌⊎◌, Result, Ok, Err}
 use Rattle.frame_reader.specs.Frames.{BeginsAbove}
-use Rattle.frames.specs.Words.{failure_count, All, StreamLog, IsOpen, SplitsIntoFrames, framed, Fits, IsCutShort, frames, RunError, with_newlines, RunsPromptly, MetNoFault, ReadFailed as AReadFailed, WriteGaveUp, OverCount, RefusedBeforeCalls, GaveNothing, ReceivedFlushed}
+use Rattle.frames.specs.Words.{failure_count, All, StreamLog, Begins, IsOpen, SplitsIntoFrames, framed, Fits, IsCutShort, frames, RunError, with_newlines, RunsPromptly, MetNoFault, ReadFailed as AReadFailed, WriteGaveUp, OverCount, RefusedBeforeCalls, GaveNothing, ReceivedFlushed}
 use Rattle.frames.specs.declared.error.RunError.TheVariants.{TooLong, Truncated, Read, Write, Io}
 
 -- what is due of these bytes: the payloads of all whole frames in them, as lines
@@ -30,6 +30,11 @@ pub record UnpackedFirst (most : ℕ) (read read' written written' : StreamLog) 
   pub given : read'.reads.given ≡ read.reads.given ++ (frames (lines ++ lost) ++ more)
   pub received : written'.writes.received ++ unsent ≡ written.writes.received ++ with_newlines lines
 
+-- the lines of all payloads were received: none is lost or unsent, and what follows begins with no whole frame
+abbrev pub NoFrameLeft : {most : ℕ} {read read' written written' : StreamLog} → UnpackedFirst most read read' written written'
+    → Type 0
+NoFrameLeft {most} first = (first.lost ≡ []) × (first.unsent ≡ []) × ¬ (Begins (framed most) first.more)
+
 -- what a run of `unpack` did: at Ok all that was given is frames, and else some bytes behind them aren't. Where a read failed
 -- no payload that came is lost. Any other fault is a writer's, or a buffer was refused before the run began, or it ended at its
 -- count
@@ -46,7 +51,7 @@ UnpackRan most read read' written written' (Err (Read e)) =
     (more : List ℕ) × Unpacked most read read' written written' more × IsOpen (framed most) more
     × AReadFailed e read read' written written'
 UnpackRan most read read' written written' (Err (Write e)) =
-    (first : UnpackedFirst most read read' written written') × WriteGaveUp (first.unsent ≡ []) e read read' written written'
+    (first : UnpackedFirst most read read' written written') × WriteGaveUp (NoFrameLeft first) e read read' written written'
 UnpackRan most read read' written written' (Err (Io e)) =
     (first : UnpackedFirst most read read' written written')
     × (OverCount e (length first.lines) read read' written written' ⊎ RefusedBeforeCalls e read read' written written')
