@@ -4,11 +4,11 @@ pub use Rattle.buffer_redux.specs.BufWriter.{WritesInOrder}
 pub use Rattle.buffer_redux.specs.StreamLog.{StreamLog}
 pub use Rattle.codec.specs.Decoding.{IsLent, bytes_at}
 pub use Rattle.codec.specs.Grammar.{Begins, Grammar, IsOpen}
-pub use Rattle.codec.specs.NextPiece.{NextAnswer, NextBuffered, NextPiece, empty_reads, load_answer}
+pub use Rattle.codec.specs.NextPiece.{load_answer}
 pub use Rattle.codec.specs.PieceReader.{ReaderState, rest, room_for}
 pub use Rattle.codec.specs.Texts.{HasPieces, IsPieces}
 pub use Rattle.codec.specs.declared.Span.{Span}
-pub use Rattle.forward.specs.Filter.{FilterAsks, FilterFlushes, FilterPasses, FilterRules, IsLawful}
+pub use Rattle.forward.specs.Filter.{FilterAsks, FilterRules, IsLawful}
 pub use Rattle.forward.specs.Forward.{ForwardAnswers, NoneFailed, StopsBy}
 pub use Rattle.forward.specs.Prompt.{RunsPromptly}
 pub use Rattle.forward.specs.Streams.{WriteGaveUp}

@@ -4,10 +4,10 @@
 //! `100-continue`, before the body if the client waits (`early_refusal`); and else 100 before it. What comes and is no request is
 //! refused by the status that RFC 9112 has for it (`refusal_of`); 400 is for a body that is none, or ends early, and 413 for one
 //! that is too large (`is_large`); and then no more comes. It ends behind a request after which none may follow, and where the
-//! stream does. It asks the stream only for more of a head, or of a body behind the call, that settles nothing yet (`CallsFor`,
-//! `AwaitsBody`), where all that it wrote was sent, and sends only there, for room, and at the end (`Prompt`). Each request is
-//! answered before more is taken (`AnswersInTurns`); where a read fails it had to be made (`HadToAsk`), and where sending does,
-//! nothing was taken behind what failed (`AnswersPart`).
+//! stream does. It asks the stream only for more of a head, or of a body behind the call, at last where that settles nothing
+//! (`CallsFor`, `AwaitsBody`), and once all that it wrote was sent, and sends only there, for room, and at the end (`Prompt`).
+//! Each request is answered before more is taken (`AnswersInTurns`); where a read fails it had to be made (`HadToAsk`), and
+//! where sending does, nothing was taken behind what failed (`AnswersPart`).
 #![tactic(auto)]
 
 mod limits;
