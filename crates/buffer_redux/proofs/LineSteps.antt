@@ -1,5 +1,5 @@
 -- Reads past the policy, behind what is buffered.
-use Rattle.std.proofs.Common.{◌≡◌, ℕ, zero, suc, ◌*◌, ◌<◌, ◌≤◌, List, [], length, Result, Ok, Err}
+use Rattle.std.proofs.Common.{◌≡◌, ℕ, zero, suc, ◌<◌, ◌≤◌, List, length, Result, Ok, Err}
 use Rattle.std.proofs.Common.{Option, sym, ap, ◌∙◌, inl, inr, arith}
 use Rattle.std.specs.Prelude.{◌⊎◌}
 use Rattle.std.specs.IoError.{error_kind}
@@ -8,25 +8,10 @@ use Rattle.std.specs.declared.io.ErrorKind.TheVariants.{InvalidData}
 use Rattle.redux_buffer.specs.Faults.{OnlyInterrupts-one, OnlyInterrupts-same}
 use Rattle.redux_buffer.specs.Retried.{InterruptedSteps, Retried}
 use Rattle.buffer_redux.specs.Policy.{ReadRules}
-use Rattle.redux_buffer.specs.Block.{capacity_for, usable}
-use Rattle.buffer_redux.specs.Buffered.{Buffered, with_block}
-use Rattle.buffer_redux.specs.BufReader.{MovesFor, RanDry}
+use Rattle.buffer_redux.specs.Buffered.{Buffered}
+use Rattle.buffer_redux.specs.BufReader.{RanDry}
 use Rattle.buffer_redux.specs.ReadBehind.{FillsOn, FillsOrReads, ReadsBehind}
-use Rattle.buffer_redux.specs.ReadAll.{HandedFront}
 use Rattle.buffer_redux.proofs.Retrying.{HandsNothing, refilling, retrying}
-
--- space was made behind what is buffered, where bytes can be written now
-pub record SpaceMade {S P : Type 0} (remaining : S → Option (List ℕ)) (rules : ReadRules P) (s t : Buffered S P)
-    : Type 0 where
-  pub front : HandedFront remaining rules s [] t
-  pub room : 0 < usable t.block
-  pub bytes : t.block.bytes ≡ s.block.bytes
-  pub others : t ≡ with_block s t.block
-  pub limit : t.block.limit ≡ s.block.limit
-  pub capacity : 2 * length s.block.bytes ≤ s.block.capacity → t.block.capacity ≡ s.block.capacity
-  pub grown : (t.block.capacity ≡ s.block.capacity) ⊎ (t.block.capacity ≡ capacity_for s.block 1)
-  pub consumed : t.block.consumed ≡ s.block.consumed
-  pub moves : MovesFor 1 s.block t.block
 
 -- a call went on, by more bytes behind those that are buffered; or that failed; or the stream ended behind them
 abbrev pub FillsMore : {S P A : Type 0} → (S → Option (List ℕ)) → ReadRules P → Buffered S P → Result A Error

@@ -6,16 +6,14 @@ use Rattle.std.specs.List.{FoldsTo, concat}
 use Rattle.std.proofs.lemmas.List.Folds.{concat-append}
 use Rattle.std.specs.declared.fmt.Error as fmt
 use Rattle.std.specs.declared.fmt.Formatter.{Formatter}
-use Rattle.std.specs.Io.KnownBytes.{Appends}
 use Rattle.std.specs.declared.io.Error.{Error}
 use Rattle.std.proofs.Math.Logic.{∥∥₁_map}
 use Rattle.redux_buffer.specs.StreamLog.{StreamLog}
 use Rattle.buffer_redux.specs.Policy.{WriteRules}
 use Rattle.buffer_redux.specs.Buffered.{Buffered}
-use Rattle.buffer_redux.specs.BufWriter.{WritesAlong, writer_contents}
+use Rattle.buffer_redux.specs.BufWriter.{WritesAlong}
 use Rattle.buffer_redux.specs.WriteAll.{WritesAll}
 use Rattle.buffer_redux.specs.WriteFmt.{PieceFailed, StoppedIn, TakesOnePiece, TakesPieces, TextWent, WritesEach, WritesPieces, WritesText}
-use Rattle.buffer_redux.specs.WriterLaws.{WritesInOrder-contents}
 use Rattle.buffer_redux.specs.WritesAlongLaws.{WritesAll-along, WritesAll-took, WritesAlong-joins, WritesAlong-none}
 use Rattle.std.specs.IoError.{error_kind}
 use Rattle.std.specs.declared.io.ErrorKind.TheVariants.{Uncategorized}
@@ -230,10 +228,3 @@ module _ {S P : Type 0} (tells : S → StreamLog) (trace : S → S → Type 0) (
       → WritesText tells trace rules s text (Ok x) t
   text_written s text x t went taken =
       record { along = ∥∥₁_map went (λ w. went_along s None t w); went = went; whole = taken; beginning = tt }
-
--- as std has it
-pub text_appends : {S P : Type 0} (tells : S → StreamLog) (trace : S → S → Type 0) (rules : WriteRules P)
-    (s t : Buffered S P) (text : Option (List ℕ)) → IfSome text (λ bytes. WritesPieces tells trace rules s bytes t)
-    → IfSome text (Appends (writer_contents s) (writer_contents t))
-text_appends tells trace rules s t None p = tt
-text_appends tells trace rules s t (Some bytes) p = WritesInOrder-contents s t bytes p.along.in_order

@@ -1,7 +1,6 @@
 -- What a write, and then a send of its lines, come to, for the proofs of those who call a line sender.
-use Rattle.std.specs.Prelude.{◌≡◌, ◌⊎◌, ℕ, List, [], ◌∷◌, Option, Result, Ok, Err, MatchResult}
+use Rattle.std.specs.Prelude.{◌≡◌, ◌⊎◌, ℕ, List, [], ◌∷◌, Result, Ok, Err, MatchResult}
 use Rattle.std.proofs.Common.{sym, subst, inl, inr, append-nil}
-use Rattle.std.proofs.Math.Logic.{∥∥₁_map}
 use Rattle.std.proofs.lemmas.Bool.{cases_eq}
 use Rattle.std.proofs.lemmas.List.Elements.{All-cons, All-head, All-nil, All-tail}
 use Rattle.std.specs.declared.io.Error.{Error}
@@ -12,7 +11,6 @@ use Rattle.buffer_redux.specs.Buffered.{Buffered}
 use Rattle.buffer_redux.specs.BufWriter.{AllAlong, WritesAlong}
 use Rattle.buffer_redux.specs.LineWriter.{SendsLines, ThenSendsLines}
 use Rattle.buffer_redux.specs.ReadUntil.{Lacks}
-use Rattle.buffer_redux.specs.WriteFmt.{WritesText}
 use Rattle.buffer_redux.specs.WritesAlongLaws.{AllAlong-after, WasSent-along, WasSent-all, WritesAlong-none, WritesAlong-then}
 
 -- a line feed is among the bytes, or not
@@ -64,16 +62,6 @@ module _ {S P : Type 0} (tells : S → StreamLog) (trace : S → S → Type 0) (
     -- behind a write that accepted these bytes; and behind one of which it is known why it failed
     module _ (Wrote : Result (Unit {0}) Error → Buffered S P → Type 0) (l : ThenSendsLines tells trace Wrote answer t)
         (bytes : List ℕ) where
-      pub ThenSendsLines-along : WritesAlong tells trace rules s bytes l.written → WritesAlong tells trace rules s bytes t
-      ThenSendsLines-along = ended_along bytes l.writing l.written l.ended
-
       pub ThenSendsLines-all : AllAlong tells trace rules s bytes l.writing l.written
           → AllAlong tells trace rules s bytes answer t
       ThenSendsLines-all = ended_all bytes l.writing l.written l.ended
-
-    -- behind a text some bytes were accepted, at an `Err` too
-    pub ThenSendsLines-text : (text : Option (List ℕ))
-        → ThenSendsLines tells trace (WritesText tells trace rules s text) answer t
-        → ∥ ((accepted : List ℕ) × WritesAlong tells trace rules s accepted t) ∥₁
-    ThenSendsLines-text text l =
-        ∥∥₁_map l.wrote.along (λ a. (a.0, ended_along a.0 l.writing l.written l.ended a.1))

@@ -1,8 +1,9 @@
 -- Where a needle stands in bytes, and in more and fewer of them.
-use Rattle.std.proofs.Common.{◌≡◌, ℕ, suc, ◌+◌, ◌-◌, ◌≤◌, List, [], ◌∷◌, ◌++◌, length, take, drop, sym, ap, refl, subst, ◌∙◌, arith, get_or, length-append, length-take-le}
+use Rattle.std.proofs.Common.{◌≡◌, ℕ, suc, ◌+◌, ◌-◌, ◌≤◌, List, [], ◌∷◌, ◌++◌, length, take, drop, sym, ap, refl, subst, ◌∙◌, arith, get_or, length-append, length-take-le, inl, inr}
 use Rattle.std.proofs.Math.Seq.{take-append-add}
-use Rattle.std.proofs.lemmas.List.{get_or_append_left, get_or-append_right, take-append-drop}
-use Rattle.memchr.specs.Find.{OccursAt}
+use Rattle.std.proofs.lemmas.List.{get_or_append_left, get_or-append_right, take_at, take-append-drop}
+use Rattle.std.proofs.lemmas.Bool.{cases_lt}
+use Rattle.memchr.specs.Find.{Nowhere, OccursAt}
 
 -- what stands in bytes stands in more, at the same place
 pub OccursAt-more : (a b needle : List ℕ) (k : ℕ) → OccursAt a needle k → OccursAt (a ++ b) needle k
@@ -91,3 +92,39 @@ OccursAt-take bytes needle k o =
     ∙ ap (take (length (take k bytes) + length needle)) (sym (take-append-drop k bytes))
     ∙ take-append-add (take k bytes) (drop k bytes) (length needle)
     ∙ ap (λ l. take k bytes ++ l) (OccursAt-front (drop k bytes) needle here)
+
+module _ (needle : List ℕ) where
+  -- these bytes are `front` and the needle, which stands nowhere before
+  abbrev EndsFirst : List ℕ → List ℕ → Type 0
+  EndsFirst bytes front = (bytes ≡ front ++ needle) × Nowhere (OccursAt bytes needle) 0 (length front)
+
+  -- of two such that begin the same bytes neither front is longer
+  not_first : (a b x y xs ys : List ℕ) → EndsFirst a x → EndsFirst b y → a ++ xs ≡ b ++ ys → length y ≤ length x
+  not_first a b x y xs ys p q same = elim (cases_lt (length x) (length y)) [
+    | inr long ↦ long
+    | inl short ↦
+        let here : OccursAt (b ++ ys) needle (length x) =
+        subst (λ l. OccursAt l needle (length x)) same
+        (OccursAt-more a xs needle (length x)
+        (subst (λ l. OccursAt l needle (length x)) (sym p.0) (OccursAt-last x needle))) in
+        absurd (q.1 (length x) (omega arith) short
+        (OccursAt-fewer b ys needle (length x) (omega (arith, short, ap length q.0, length-append y needle)) here))
+  ]
+
+  -- they are the same, and so are the fronts
+  pub OccursAt-one : (a b x y xs ys : List ℕ) → a ≡ x ++ needle → Nowhere (OccursAt a needle) 0 (length x)
+      → b ≡ y ++ needle → Nowhere (OccursAt b needle) 0 (length y) → a ++ xs ≡ b ++ ys → (a ≡ b) × (x ≡ y)
+  OccursAt-one a b x y xs ys is none is' none' same =
+      let len : length y ≡ length x =
+      omega (
+        arith,
+        not_first a b x y xs ys (is, none) (is', none') same,
+        not_first b a y x ys xs (is', none') (is, none) (sym same),
+      ) in
+      let long : length b ≡ length a =
+      omega (arith, len, ap length is, ap length is', length-append x needle, length-append y needle) in
+      let equal : a ≡ b =
+      sym (take_at a xs (length a) refl) ∙ ap (take (length a)) same ∙ take_at b ys (length a) long in (
+        equal,
+        sym (take_at x needle (length x) refl) ∙ ap (take (length x)) (sym is ∙ equal ∙ is') ∙ take_at y needle (length x) len,
+      )

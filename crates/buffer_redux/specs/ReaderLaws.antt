@@ -1,5 +1,5 @@
 -- Laws of a buffered reader, for the proofs of those who call one.
-use Rattle.std.specs.Prelude.{◌≡◌, ℕ, ◌<◌, ◌≤◌, ◌==◌, ◌||◌, ◌⊎◌, nat_lt, not, List, [], ◌++◌, length, take, drop, min, Result, Ok, Err, Option, None, Some, IfSome, Bool, is_ok, true, false}
+use Rattle.std.specs.Prelude.{◌≡◌, ℕ, ◌<◌, ◌≤◌, ◌==◌, ◌||◌, ◌⊎◌, nat_lt, not, List, [], ◌++◌, length, take, drop, min, Result, Ok, Option, None, Some, IfSome, Bool, is_ok, true, false}
 use Rattle.std.proofs.Common.{zero, suc, cond, sym, ap, subst, refl, ◌∙◌, arith, inl, inr, le_refl, le_trans, append_assoc, append-nil}
 use Rattle.std.proofs.Math.Seq.{take-length}
 use Rattle.std.proofs.KnownBytes.{Consumes-whole}
@@ -15,8 +15,6 @@ use Rattle.buffer_redux.specs.Policy.{ReadRules, ReadClaims, std_read_rules}
 use Rattle.buffer_redux.specs.Buffered.{Buffered, Makes}
 use Rattle.buffer_redux.specs.BufReader.{ReadsInOrder, InnerGives, RanDry, FillsToMinimum, Fills, FillBuf, ReaderConsumes, ReaderKeeps, ReadsAlong, ReadsToEnd}
 use Rattle.buffer_redux.specs.Remaining.{ahead, may_stop, reader_remaining}
-use Rattle.buffer_redux.specs.Unbuffer.{HandsOutInOrder, unbuffered, Unbuffered}
-use Rattle.buffer_redux.specs.Seek.{SeekLeaves}
 use Rattle.std.specs.Option.{IsSomeAnd, unwrap_or}
 
 -- no call hands out nothing, and two traces of calls join
@@ -100,49 +98,6 @@ pub Fills-ahead : {S P A : Type 0} (rules : ReadRules P) (n : ℕ) (s : Buffered
     → FillsToMinimum n s (is_ok answer) t
 Fills-ahead rules n s answer t fills claimed =
     subst (λ o. IfSome o (λ n. FillsToMinimum n s (is_ok answer) t)) claimed fills.ahead
-
--- an Ok seek drops what was buffered as if it had been handed out, and nothing is given in it. From there on
--- `ReadsInOrder-fresh` says what is handed out
-pub ReadsInOrder-seek : {S P : Type 0} (s : Buffered S P) (n : ℕ) (t : Buffered S P) → SeekLeaves s (Ok n) t
-    → ReadsInOrder s s.block.bytes t
-ReadsInOrder-seek s n t leaves = record {
-  got = [];
-  given = ap (λ l. l.given) leaves.reads ∙ sym (append-nil s.log.reads.given);
-  equal = ap (λ l. s.block.bytes ++ l) leaves.ok.bytes;
-  consumed = omega (arith, leaves.ok.consumed);
-}
-
--- a failed seek drops all of it, or nothing
-pub ReadsInOrder-failed_seek : {S P : Type 0} (s : Buffered S P) (e : Error) (t : Buffered S P)
-    → SeekLeaves {A = ℕ} s (Err e) t → ReadsInOrder s [] t ⊎ ReadsInOrder s s.block.bytes t
-ReadsInOrder-failed_seek s e t leaves =
-    let given : t.log.reads.given ≡ s.log.reads.given ++ [] =
-    ap (λ l. l.given) leaves.reads ∙ sym (append-nil s.log.reads.given) in
-    elim leaves.err [
-      | inl left ↦ inl (record {
-        got = [];
-        given = given;
-        equal = ap (λ b. b.bytes) left ∙ sym (append-nil s.block.bytes);
-        consumed = omega (arith, ap (λ b. b.consumed) left);
-      })
-      | inr cleared ↦ inr (record {
-        got = [];
-        given = given;
-        equal = ap (λ l. s.block.bytes ++ l) cleared.bytes;
-        consumed = omega (arith, cleared.consumed);
-      })
-    ]
-
--- the joined lists go on where the reader gives its buffer up
-pub HandsOutInOrder-after : {S P : Type 0} (s t : Buffered S P) (u : Unbuffered S) (h k : List ℕ)
-    → ReadsInOrder s h t → HandsOutInOrder (unbuffered t) k u → HandsOutInOrder (unbuffered s) (h ++ k) u
-HandsOutInOrder-after s t u h k a b = record {
-  got = a.got ++ b.got;
-  given = b.given ∙ ap (λ l. l ++ b.got) a.given ∙ append_assoc s.log.reads.given a.got b.got;
-  equal =
-      append_assoc h k u.left ∙ ap (λ l. h ++ l) b.equal ∙ sym (append_assoc h t.block.bytes b.got)
-      ∙ ap (λ l. l ++ b.got) a.equal ∙ append_assoc s.block.bytes a.got b.got;
-}
 
 -- what is known of one reader, and of another after it
 pub Keeps-of : (a b : Option (List ℕ)) → Consumes a b [] → Keeps a b
@@ -265,15 +220,6 @@ module _ {S P : Type 0} (remaining : S → Option (List ℕ)) (rules : ReadRules
       → ReadsAlong remaining rules b [] c → ReadsAlong remaining rules a h c
   ReadsAlong-then a b c h p q =
       subst (λ l. ReadsAlong remaining rules a l c) (append-nil h) (ReadsAlong-joins a b c h [] p q)
-
-  -- a trace that goes to the end, behind another
-  pub ReadsToEnd-after : (a b c : Buffered S P) (h k : List ℕ) → ReadsAlong remaining rules a h b
-      → ReadsToEnd remaining rules b k c → ReadsToEnd remaining rules a (h ++ k) c
-  ReadsToEnd-after a b c h k p q = record {
-    along = ReadsAlong-joins a b c h k p q.along;
-    none = q.none;
-    dry = omega (arith, p.grows.zero_reads, q.dry);
-  }
 
   -- a call that says what it handed out and what it keeps, as `read` does, whatever it answers
   pub ReaderKeeps-along : (s : Buffered S P) (handed : List ℕ) (t : Buffered S P) → ReadsInOrder s handed t

@@ -56,6 +56,15 @@ module _ {R : Type 0} (remaining : R → Option (List ℕ)) where
     grows = ReadLogGrows-joins s.log.reads m.log.reads t.log.reads a.grows b.grows;
   }
 
+  -- a stream that wasn't asked gave nothing
+  pub StreamWent-unasked : (s t : Unbuffered R) (bytes : List ℕ) → StreamWent remaining s bytes t → t.log ≡ s.log
+      → bytes ++ t.left ≡ s.left
+  StreamWent-unasked s t bytes went same =
+      let order = went.order in
+      let none : order.got ≡ [] = append_cancel_left s.log.reads.given order.got []
+      (sym order.given ∙ ap (λ l. l.reads.given) same ∙ sym (append-nil s.log.reads.given)) in
+      order.equal ∙ ap (λ l. s.left ++ l) none ∙ append-nil s.left
+
   -- where what is left is known, these bytes are its front, and the others are left
   pub StreamWent-front : (s t : Unbuffered R) (bytes text : List ℕ) → StreamWent remaining s bytes t
       → unbuffer_remaining remaining s ≡ Some text

@@ -1,5 +1,5 @@
 -- What calls that go on up to a byte do to the bytes that are known to be left.
-use Rattle.std.specs.Prelude.{◌≡◌, ℕ, ◌<◌, ◌⊎◌, Bool, false, true, cond, List, [], ◌∷◌, ◌++◌, Result, Ok, Err, Option, None, Some, IfSome, IfOk, OnOk, length}
+use Rattle.std.specs.Prelude.{◌≡◌, ℕ, ◌<◌, Bool, false, true, cond, List, [], ◌∷◌, ◌++◌, Result, Ok, Err, Option, None, Some, IfSome, IfOk, OnOk, length}
 use Rattle.std.proofs.Common.{◌∙◌, eqb, ap, append-nil, append_assoc, arith, inl, inr, length-append, refl, subst, sym}
 use Rattle.std.proofs.BufReadLemmas.{take_through-append}
 use Rattle.std.proofs.lemmas.List.{append_cancel_left, nil_from_length}
@@ -114,19 +114,6 @@ module _ {S P : Type 0} (remaining : S → Option (List ℕ)) (rules : ReadRules
       → (reads : ReadsUntil remaining rules byte s before answer after t) → ReadsAlong remaining rules s reads.handed t
   ReadsUntil-along before answer after t reads =
       ReaderKeeps-along remaining rules s reads.handed t reads.front.in_order reads.front.keeps
-
-  pub SkipsUntil-along : (answer : Result ℕ Error) (t : Buffered S P)
-      → (skips : SkipsUntil remaining rules byte s answer t) → ReadsAlong remaining rules s skips.handed t
-  SkipsUntil-along answer t skips =
-      ReaderKeeps-along remaining rules s skips.handed t skips.front.in_order skips.front.keeps
-
-  -- at Ok it appended a piece that ends in the byte, or one without it
-  pub ReadsUntil-piece : (before : List ℕ) (n : ℕ) (after : List ℕ) (t : Buffered S P)
-      → (reads : ReadsUntil remaining rules byte s before (Ok n) after t) → EndsIn byte reads.handed ⊎ Lacks byte reads.handed
-  ReadsUntil-piece before n after t reads = elim reads.ends [
-    | inl reached ↦ inl reached.0
-    | inr ended ↦ inr ended.fills.passes.plain
-  ]
 
   -- one that appended nothing has met the end
   pub ReadsUntil-end : (before after : List ℕ) (t : Buffered S P)

@@ -95,14 +95,6 @@ module _ {S P : Type 0} (tells : S → StreamLog) (trace : S → S → Type 0) (
       met (Err e) left sent failed =
           (let odd : ◌≡◌ {A = Result (Unit {0}) Error} (Ok x) (Err e) = failed e refl in cc)
 
-  pub WritesParts-unflushed : (answer : Result (Unit {0}) Error) → WritesParts tells trace s bytes answer t
-      → (t.log.writes.flushes ≡ s.log.writes.flushes) × (t.log.writes.flushed ≡ s.log.writes.flushed)
-  WritesParts-unflushed answer w = elim (WritesParts-sent answer w) [
-    | inl same ↦ (ap (λ l. l.writes.flushes) same, ap (λ l. l.writes.flushed) same)
-    | inr (sending, left, sent, told, failed) ↦
-        (ap (λ l. l.writes.flushes) told ∙ sent.sends.sent.flushes, ap (λ l. l.writes.flushed) told ∙ sent.sends.sent.flushed)
-  ]
-
   -- the limit stays
   pub WritesParts-limit : (answer : Result (Unit {0}) Error) → WritesParts tells trace s bytes answer t
       → t.block.limit ≡ s.block.limit

@@ -1,5 +1,5 @@
 -- Laws of traces of a writer's calls, for the proofs of those who make them.
-use Rattle.std.specs.Prelude.{◌≡◌, ℕ, ◌+◌, ◌≤◌, ◌⊎◌, List, [], ◌∷◌, ◌++◌, length, take, drop, Result, Ok, Err, Option, MatchResult, true}
+use Rattle.std.specs.Prelude.{◌≡◌, ℕ, ◌+◌, ◌≤◌, ◌⊎◌, List, [], ◌∷◌, ◌++◌, take, drop, Result, Ok, Err, Option, MatchResult, true}
 use Rattle.std.proofs.Common.{sym, ap, subst, refl, ◌∙◌, arith, inl, inr, le_refl, le_trans, append_assoc, append-nil, take-append-drop}
 use Rattle.std.proofs.Math.Seq.{take-length}
 use Rattle.std.proofs.lemmas.List.{append_cancel_left}
@@ -9,13 +9,13 @@ use Rattle.std.specs.declared.io.Error.{Error}
 use Rattle.redux_buffer.specs.Faults.{FaultedAfter, IsInterrupt, IsMemory, SendErrorCaused, TookNothing}
 use Rattle.redux_buffer.specs.LogGrows.{WriteLogGrows, WriteLogGrows-none, WriteLogGrows-joins, WritesGoOn}
 use Rattle.redux_buffer.specs.Memory.{fault-memory, send-memory, writer-takes_some, writer_log}
-use Rattle.redux_buffer.specs.StreamLog.{StreamLog, WriteLog, after_flush, portion}
+use Rattle.redux_buffer.specs.StreamLog.{StreamLog, WriteLog, after_flush}
 use Rattle.redux_buffer.specs.Told.{ToldWrites, told_log, told_stream}
 use Rattle.redux_buffer.specs.declared.tell.memory.MemoryWriter.{MemoryWriter}
 use Rattle.redux_buffer.specs.declared.tell.told.Told.{Told}
 use Rattle.buffer_redux.specs.Policy.{WriteRules}
 use Rattle.buffer_redux.specs.Buffered.{Buffered, with_block}
-use Rattle.buffer_redux.specs.BufWriter.{WritesInOrder, WriterKeeps, WasSent, WasFlushed, WritesSteadily, WritesAlong, FlushedAlong, WasInterrupted, WriterStopped, BegunAlong, StoppedAlong, FrontAlong, AllAlong, AllFlushed, Flushes}
+use Rattle.buffer_redux.specs.BufWriter.{WritesInOrder, WriterKeeps, WasSent, WasFlushed, WritesAlong, FlushedAlong, WasInterrupted, WriterStopped, BegunAlong, StoppedAlong, FrontAlong, AllAlong, AllFlushed, Flushes}
 use Rattle.buffer_redux.specs.WriteAll.{WritesAll}
 use Rattle.buffer_redux.specs.WriterLaws.{WritesInOrder-none, WritesInOrder-joins, WritesInOrder-contents}
 
@@ -176,22 +176,6 @@ module _ {S P : Type 0} (tells : S → StreamLog) (trace : S → S → Type 0) (
   pub StoppedAlong-more : (s t : Buffered S P) (a more : List ℕ) (e : Error) → StoppedAlong tells trace rules s a e t
       → StoppedAlong tells trace rules s (a ++ more) e t
   StoppedAlong-more s t a more e p = record { begun = BegunAlong-more s t a more p.begun; why = p.why }
-
-  -- whatever the cause
-  pub AllAlong-front : {A : Type 0} (s t : Buffered S P) (a : List ℕ) (answer : Result A Error)
-      → AllAlong tells trace rules s a answer t → FrontAlong tells trace rules s a answer t
-  AllAlong-front s t a (Ok x) p = p
-  AllAlong-front s t a (Err e) p = p.begun
-
-  -- the same with why it failed, under a steady policy
-  pub Writes-all : (s : Buffered S P) (bs : List ℕ) (answer : Result ℕ Error) (t : Buffered S P)
-      → WritesInOrder s (portion bs answer) t → WritesSteadily rules s (length bs) answer t → WriterKeeps tells trace rules s t
-      → (rules.claims s.policy).steady ≡ true → AllAlong tells trace rules s (portion bs answer) answer t
-  Writes-all s bs (Ok n) t order steadily keeps steady = WriterKeeps-along s (take n bs) t order keeps
-  Writes-all s bs (Err e) t order steadily keeps steady = record {
-    begun = BegunAlong-of s t [] [] (WriterKeeps-along s [] t order keeps);
-    why = WriterStopped-send s.log.writes t.log.writes e (steadily steady).0;
-  }
 
   -- a write of all bytes, which at Err accepted some of the first
   pub WritesAll-along : (s : Buffered S P) (bs : List ℕ) (answer : Result (Unit {0}) Error) (t : Buffered S P)

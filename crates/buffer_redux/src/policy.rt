@@ -47,9 +47,9 @@ pub trait ReaderPolicy {
     // What the calls may return and change beside the law, and what the policy claims.
     ghost rules: { ReadRules Self } = { any_read_rules };
 
-    /// Asked by `fill_buf` and `read` before each read into the buffer, and again after one that gave bytes. They read only
-    /// where this says so and leaves usable space. `read_into_buf` and `peek` don't ask, nor does a `read` that goes past an
-    /// empty buffer. An `Err` ends the reader's call.
+    /// Asked in every fill before each read into the buffer, and again after one that gave bytes. A fill reads only where this
+    /// says so and leaves usable space. `read_into_buf`, `peek`, and `read_line` behind a part of a character, don't ask, nor
+    /// does a `read` that goes past an empty buffer. An `Err` ends the reader's call.
     ///
     /// [`read_when_empty`] is the original's default.
     fn before_read(&mut self, buffer: &mut Buffer) -> io::Result<DoRead>

@@ -1,12 +1,11 @@
 -- How many bytes wait in the writer's buffer while the reader is asked.
-use Rattle.std.proofs.Common.{◌≡◌, ◌∙◌, ℕ, zero, suc, ◌+◌, ◌<◌, ◌≤◌, inl, inr, List, [], length, take, Option, Result, Ok, Err, sym, ap, subst, arith, length-append, length-take, ◌++◌}
-use Rattle.std.specs.Prelude.{nat_le, if◌then◌else◌}
+use Rattle.std.proofs.Common.{◌≡◌, ◌∙◌, ℕ, zero, suc, ◌+◌, ◌<◌, ◌≤◌, inl, inr, List, [], length, Option, Result, Ok, Err, sym, ap, subst, arith, length-append, length-take, ◌++◌}
 use Rattle.std.proofs.lemmas.Bool.{cases_lt}
 use Rattle.std.specs.declared.io.Error.{Error}
 use Rattle.buffer_redux.specs.Block.{Block, IsBlock, usable}
 use Rattle.buffer_redux.specs.Buffered.{Buffered}
-use Rattle.buffer_redux.specs.BufWriter.{CopiesIn, Prepared, TakesIn, WasFlushed, Writes, WritesInOrder}
-use Rattle.buffer_redux.specs.Copy.{CopyBuf, CopyRows, CopyStep, CopyStreams, MovedBy, MovingRows}
+use Rattle.buffer_redux.specs.BufWriter.{CopiesIn, Prepared, TakesIn, Writes, WritesInOrder}
+use Rattle.buffer_redux.specs.Copy.{CopyBuf, CopyRows, CopyStep, CopyStreams, MovingRows}
 use Rattle.buffer_redux.specs.CopyLaws.{CopyBuf-moved}
 use Rattle.buffer_redux.specs.EmptyReads.{ReadsWhole-std}
 use Rattle.buffer_redux.specs.Policy.{amount_when_full, std_read_rules, std_write_rules}

@@ -6,7 +6,7 @@ use Rattle.std.specs.declared.io.ErrorKind.TheVariants.{Other, OutOfMemory}
 use Rattle.buffer_redux.specs.Block.{Block, Kind, Plain, Ring, round}
 use Rattle.buffer_redux.specs.Buffered.{Buffered}
 use Rattle.buffer_redux.specs.StreamLog.{StreamLog}
-pub use Rattle.forward.specs.Streams.{MetNoFault, ReadGaveUp, ReadFailed, WriterFailed, EndsOnce}
+pub use Rattle.forward.specs.Streams.{MetNoFault, ReadFailed, WriterFailed, EndsOnce}
 
 -- as many pieces went over as the run counts
 pub record OverCount (e : Error) (count : ℕ) (read read' written written' : StreamLog) : Type 0 where

@@ -1,12 +1,11 @@
 -- What is known of the bytes that a reader has left, while it gives some of them.
-use Rattle.std.specs.Prelude.{◌≡◌, ℕ, ◌<◌, List, [], ◌++◌, length, take, Option, None, Some, IfSome, Result, Ok, Err}
-use Rattle.std.proofs.Common.{sym, ap, subst, ◌∙◌, append-nil, append_assoc, length-append, arith, inl, inr}
+use Rattle.std.specs.Prelude.{◌≡◌, ℕ, ◌<◌, List, [], ◌++◌, length, Option, None, Some, IfSome}
+use Rattle.std.proofs.Common.{sym, ap, ◌∙◌, append-nil, append_assoc, length-append, arith, inl, inr}
 use Rattle.std.proofs.lemmas.Bool.{cases_lt}
 use Rattle.std.proofs.lemmas.List.{append_cancel_left, nil_from_length}
-use Rattle.std.proofs.KnownBytes.{Consumes-nil, Consumes-trans, Consumes-kept}
-use Rattle.std.specs.Io.KnownBytes.{Consumes, IsAtEnd, ReadConsumes, prepend_known}
-use Rattle.std.specs.declared.io.Error.{Error}
-use Rattle.redux_buffer.specs.StreamLog.{StreamLog, ReadLog, with_zero, after_read}
+use Rattle.std.proofs.KnownBytes.{Consumes-nil, Consumes-trans}
+use Rattle.std.specs.Io.KnownBytes.{Consumes, IsAtEnd, prepend_known}
+use Rattle.redux_buffer.specs.StreamLog.{ReadLog}
 
 -- the bytes known to be left lost just those that were given since, and where the reader ran dry, none is left
 pub record GivesRemaining (left : Option (List ℕ)) (log : ReadLog) (left' : Option (List ℕ))
@@ -49,35 +48,6 @@ GivesRemaining-joins a k b l c m p q = record {
     | inl first ↦ stays_at_end a b c p.more q.more p.went q.went (p.dry first)
     | inr second ↦ ends_later a b c p.more p.went (q.dry (omega (arith, rose, second)))
   ];
-}
-
--- what rose tells that nothing was taken of something
-zero_of_risen : (n : ℕ) (buf : List ℕ) (before : ℕ) → before < with_zero before buf (Ok n)
-    → (n ≡ 0) × (0 < length buf)
-zero_of_risen n buf before rose = grind (arith, rose)
-
-at_end : (left left' : Option (List ℕ)) → IsAtEnd left' → IfSome left (λ _. IsAtEnd left')
-at_end None left' ended = tt
-at_end (Some x) left' ended = ended
-
--- one read
-pub GivesRemaining-read : (left left' : Option (List ℕ)) (log log' : StreamLog) (buf : List ℕ)
-    (answer : Result ℕ Error) → ReadConsumes left left' answer buf → log' ≡ after_read log buf answer
-    → GivesRemaining left log.reads left' log'.reads
-GivesRemaining-read left left' log log' buf (Ok n) bytes told = record {
-  more = take n buf;
-  given = ap (λ l. l.reads.given) told;
-  went = bytes.0;
-  dry = λ rose.
-      let counted = ap (λ l. l.reads.zero_reads) told in
-      let none = zero_of_risen n buf log.reads.zero_reads (subst (λ k. log.reads.zero_reads < k) counted rose) in
-      at_end left left' (bytes.1 none.0 none.1);
-}
-GivesRemaining-read left left' log log' buf (Err e) bytes told = record {
-  more = [];
-  given = ap (λ l. l.reads.given) told;
-  went = Consumes-kept left left left' [] (Consumes-nil left) bytes;
-  dry = λ rose. absurd (omega (arith, rose, ap (λ l. l.reads.zero_reads) told));
 }
 
 -- bytes that are buffered before those that are left, gain what is given, and lose what is handed out: of all of them just

@@ -1,5 +1,5 @@
 //! Copying from a buffered reader to a writer.
-ghost use Rattle.std.specs.Prelude.{◌≡◌, ℕ, ◌+◌, ◌^◌, ◌≤◌, ◌⊎◌, List, [], ◌++◌, length, Ok, Err, IfSome, IfNone, IfOk, MatchResult, OnErr};
+ghost use Rattle.std.specs.Prelude.{◌≡◌, ℕ, ◌+◌, ◌^◌, ◌≤◌, List, [], ◌++◌, length, Ok, Err, IfSome, IfNone, IfOk, OnErr};
 ghost use Rattle.redux_buffer.specs.Copy.{CopyBuf, CopyRetried, CopyRows, CopyTurn, CopyStep};
 ghost use Rattle.redux_buffer.specs.Retried.{Retried};
 

@@ -40,5 +40,5 @@ pub const MAX_CAPACITY: usize = 1 << 62;
 /// The greatest capacity of a ring, in bytes.
 pub const MAX_RING: usize = 1 << 61;
 
-/// How many `Interrupted` in a row a sending or copying call retries.
+/// How many `Interrupted` in a row a call retries that sends, copies, or goes on up to a byte.
 pub const INTERRUPT_LIMIT: u32 = 64;

@@ -7,7 +7,8 @@ use memchr::memrchr;
 use redux_buffer::Buffer;
 use std::io;
 
-/// Flushes as std does before a write, and after it through the last such byte that is buffered.
+/// Flushes as std does before a write, and after it through the last such byte that is buffered, for which each write
+/// searches all that is.
 ///
 /// ```
 /// let mut writer = BufWriter::new(alloc, Told::new(Vec::new(alloc)))?.set_policy(FlushOn(b';'));
