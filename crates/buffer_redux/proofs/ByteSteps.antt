@@ -7,14 +7,14 @@ use Rattle.buffer_redux.specs.BufReader.{ReadsToEnd}
 use Rattle.buffer_redux.specs.ReadAll.{HandedFront}
 use Rattle.buffer_redux.specs.ReadByte.{FillsAndTakes, ReadsByte, handed_byte}
 use Rattle.buffer_redux.specs.ReaderLaws.{ReaderKeeps-along, WantsBytes}
-use Rattle.buffer_redux.proofs.ReadAll.{front_joins}
+use Rattle.buffer_redux.specs.ReadAllLaws.{HandedFront-joins}
 use Rattle.buffer_redux.proofs.Retrying.{refilling, retried_dry}
 
 module _ {S P : Type 0} (remaining : S → Option (List ℕ)) (rules : ReadRules P) where
   filled_front : (s : Buffered S P) (answer : Result (Option ℕ) Error) (t : Buffered S P)
       → FillsAndTakes remaining rules s answer t → HandedFront remaining rules s (handed_byte answer) t
   filled_front s (Ok (Some byte)) t f =
-      front_joins remaining rules s f.0 t [] (byte ∷ []) ((refilling remaining rules).front s (Ok tt) f.0 f.1) f.2.0
+      HandedFront-joins remaining rules s f.0 t [] (byte ∷ []) ((refilling remaining rules).front s (Ok tt) f.0 f.1) f.2.0
   filled_front s (Ok None) t f =
       subst (HandedFront remaining rules s []) (sym f.2.1) ((refilling remaining rules).front s (Ok tt) f.0 f.1)
   filled_front s (Err e) t f = (refilling remaining rules).front s (Err e) t f

@@ -17,7 +17,7 @@ use Rattle.buffer_redux.specs.ReadUntil.{DropsFirst, FirstAt, Lacks, Passes}
 use Rattle.buffer_redux.specs.Sink.{HandsFirst, HandsUntil, IsLawful, SinkRules}
 use Rattle.buffer_redux.specs.UntilLaws.{lacking_through}
 use Rattle.buffer_redux.proofs.LineSteps.{FillsMore, going_on}
-use Rattle.buffer_redux.proofs.ReadAll.{front_joins}
+use Rattle.buffer_redux.specs.ReadAllLaws.{HandedFront-joins}
 use Rattle.buffer_redux.proofs.Retrying.{retried_dry}
 use Rattle.buffer_redux.proofs.Searching.{first_through, through}
 use Rattle.buffer_redux.proofs.UntilSteps.{Shows, front_filled, passes_and_fills, passes_filled, passes_first, passes_shown, passes_to_end, reaches}
@@ -116,7 +116,7 @@ module _ {S P K : Type 0} (remaining : S → Option (List ℕ)) (rules : ReadRul
         let line = take (at + 1) m.block.bytes in record {
           handed = before.handed ++ line;
           took = law.joins k l u before.handed line before.took (subst (λ x. sink.takes l x u) bytes h.took);
-          front = front_joins remaining rules s m t before.handed line before.shows.front
+          front = HandedFront-joins remaining rules s m t before.handed line before.shows.front
               (subst (λ x. HandedFront remaining rules m x t) bytes h.front);
           ends = inl (reaches remaining rules byte s m before.handed before.shows at t first
               (subst (λ n. DropsFirst rules n m t) all h.dropped));

@@ -11,7 +11,6 @@ pub mod FillTelling
 pub mod WriteTelling
 pub mod SeekTelling
 pub mod WriteOn
-pub mod WriteTurns
 pub mod WriteAllCauses
 pub mod WriteAll
 pub mod TextPieces

@@ -16,7 +16,8 @@ use Rattle.buffer_redux.specs.ReaderLaws.{ReadsInOrder-joins, InnerGives-same, I
 use Rattle.buffer_redux.specs.Remaining.{reader_remaining}
 use Rattle.buffer_redux.specs.ReadInside.{AskedRead, FillDone, ReadsInside}
 use Rattle.buffer_redux.specs.ReadAll.{OneRead}
-use Rattle.buffer_redux.proofs.ReadAll.{keeps_joins, one_read}
+use Rattle.buffer_redux.specs.ReadAllLaws.{ReaderKeeps-joins}
+use Rattle.buffer_redux.proofs.ReadAll.{one_read}
 use Rattle.buffer_redux.proofs.FillFacts.{turns_facts, empty_read, inside_room}
 use Rattle.buffer_redux.proofs.FillClaims.{filled_keeps, fills}
 use Rattle.buffer_redux.proofs.KnownAhead.{err_counts_none, remaining_ends}
@@ -194,8 +195,8 @@ module _ {S P : Type 0} (remaining : S → Option (List ℕ)) (rules : ReadRules
         (subst (λ l. ReadsInOrder r.0 l t) front_same r.2.in_order)
 
     inside_keeps : ReaderKeeps remaining rules s t
-    inside_keeps = keeps_joins remaining rules s r.0 t (filled_keeps remaining rules s (Ok n) r.0 filled r.1.known r.1.noted)
-        r.2.keeps
+    inside_keeps = ReaderKeeps-joins remaining rules s r.0 t
+        (filled_keeps remaining rules s (Ok n) r.0 filled r.1.known r.1.noted) r.2.keeps
 
     inside_dry : n ≡ 0 → 0 < length out → WantsBytes (rules.claims s.policy) → RanDry s r.0
     inside_dry is some wants =

@@ -13,7 +13,7 @@ use Rattle.buffer_redux.specs.ReadAll.{HandedFront}
 use Rattle.buffer_redux.specs.ReaderLaws.{Fills-empty, WantsBytes}
 use Rattle.buffer_redux.proofs.FillClaims.{filled_keeps, fills}
 use Rattle.buffer_redux.proofs.FillFacts.{turns_facts}
-use Rattle.buffer_redux.proofs.ReadAll.{front_joins}
+use Rattle.buffer_redux.specs.ReadAllLaws.{HandedFront-joins}
 
 module _ {S P : Type 0} (remaining : S → Option (List ℕ)) (rules : ReadRules P) where
   -- such a step hands out nothing, and meets no fault but interrupted reads: where it's Ok, and where it's interrupted
@@ -29,7 +29,7 @@ module _ {S P : Type 0} (remaining : S → Option (List ℕ)) (rules : ReadRules
         → HandedFront remaining rules m [] t → HandedFront remaining rules s [] t
     after_interrupted zero s m t same f = subst (λ x. HandedFront remaining rules x [] t) (sym same) f
     after_interrupted (suc k) s m t i f = after_interrupted k s i.0 t i.1
-        (front_joins remaining rules i.0 m t [] [] (h.front i.0 (Err i.2) m i.4) f)
+        (HandedFront-joins remaining rules i.0 m t [] [] (h.front i.0 (Err i.2) m i.4) f)
 
     only_after : (k : ℕ) (s m t : Buffered S P) → InterruptedSteps step k s m
         → OnlyInterrupts m.log.reads.faults t.log.reads.faults → OnlyInterrupts s.log.reads.faults t.log.reads.faults

@@ -1,36 +1,16 @@
 -- What reads of an `Unbuffer` join to.
-use Rattle.std.proofs.Common.{◌≡◌, ℕ, ◌<◌, List, [], ◌++◌, length, min, drop, Result, Ok, Err, Option}
-use Rattle.std.proofs.KnownBytes.{Consumes-nil, Consumes-trans, Consumes-kept}
+use Rattle.std.proofs.Common.{◌≡◌, ℕ, ◌<◌, List, [], length, min, drop, Result, Ok, Err, OnOk, Option}
+use Rattle.std.proofs.KnownBytes.{Consumes-nil, Consumes-kept}
 use Rattle.std.specs.Io.{ReadsAtMost}
 use Rattle.std.specs.Io.KnownBytes.{Consumes, ReadConsumes}
 use Rattle.std.specs.declared.io.Error.{Error}
-use Rattle.redux_buffer.specs.LogGrows.{ReadLogGrows, ReadLogGrows-none, ReadLogGrows-joins}
+use Rattle.redux_buffer.specs.LogGrows.{ReadLogGrows}
 use Rattle.redux_buffer.specs.StreamLog.{portion, after_read}
-use Rattle.buffer_redux.specs.Unbuffer.{Unbuffered, unbuffer_remaining, UnbufferHands, HandsOutInOrder, UnbufferReads}
-use Rattle.buffer_redux.specs.UnbufferLaws.{HandsOutInOrder-none, HandsOutInOrder-joins}
-use Rattle.buffer_redux.proofs.ReadAll.{SliceRead}
+use Rattle.buffer_redux.specs.Unbuffer.{Unbuffered, unbuffer_remaining, HandsOutInOrder, UnbufferHands, UnbufferReads}
+use Rattle.buffer_redux.specs.ReadAll.{FillsSlice}
+use Rattle.buffer_redux.proofs.ReadAll.{all_handed}
 
 module _ {R : Type 0} (remaining : R → Option (List ℕ)) where
-  pub hands_none : (s : Unbuffered R) → UnbufferHands remaining s [] s
-  hands_none s = record {
-    order = HandsOutInOrder-none s;
-    known = Consumes-nil (unbuffer_remaining remaining s);
-    grows = ReadLogGrows-none s.log.reads;
-  }
-
-  pub hands_joins : (s m t : Unbuffered R) (a b : List ℕ) → UnbufferHands remaining s a m → UnbufferHands remaining m b t
-      → UnbufferHands remaining s (a ++ b) t
-  hands_joins s m t a b p q = record {
-    order = HandsOutInOrder-joins s m t a b p.order q.order;
-    known = Consumes-trans (unbuffer_remaining remaining s) (unbuffer_remaining remaining m) (unbuffer_remaining remaining t) a b
-        p.known q.known;
-    grows = ReadLogGrows-joins s.log.reads m.log.reads t.log.reads p.grows q.grows;
-  }
-
-  pub hands_tells : (s : Unbuffered R) (was : List ℕ) (answer : Result ℕ Error) (slice : List ℕ) (t : Unbuffered R)
-      → UnbufferReads remaining s was answer slice t → SliceRead (UnbufferHands remaining) s was answer slice t
-  hands_tells s was answer slice t r = record { bound = r.bound; size = r.size; front = r.handed }
-
   known : (s t : Unbuffered R) (answer : Result ℕ Error) (slice : List ℕ)
       → ReadConsumes (unbuffer_remaining remaining s) (unbuffer_remaining remaining t) answer slice
       → Consumes (unbuffer_remaining remaining s) (unbuffer_remaining remaining t) (portion slice answer)
@@ -54,3 +34,11 @@ module _ {R : Type 0} (remaining : R → Option (List ℕ)) where
     left = left;
     asked = asked;
   }
+
+  -- at Ok of `read_exact` all of the slice was handed out
+  pub all_out : (s : Unbuffered R) (was : List ℕ) (answer : Result (Unit {0}) Error) (out : List ℕ) (t : Unbuffered R)
+      → FillsSlice (UnbufferReads remaining) (UnbufferHands remaining) s was answer out t → OnOk answer (HandsOutInOrder s out t)
+      × OnOk answer (Consumes (unbuffer_remaining remaining s) (unbuffer_remaining remaining t) out)
+  all_out s was (Ok u) out t fills =
+      let h = all_handed (UnbufferReads remaining) (UnbufferHands remaining) s was (Ok u) out t fills in (h.order, h.known)
+  all_out s was (Err e) out t fills = (tt, tt)

@@ -17,7 +17,7 @@ use Rattle.buffer_redux.specs.ReadAll.{HandedFront}
 use Rattle.buffer_redux.specs.ReadBehind.{FillsOn}
 use Rattle.buffer_redux.specs.ReaderLaws.{ReaderKeeps-along, WantsBytes}
 use Rattle.buffer_redux.specs.ReadUntil.{DropsFirst, DropsSome, EndsIn, EndsUntil, FirstAt, Lacks, Passes, PassesAndFills, PassesToEnd, Steps, Stops}
-use Rattle.buffer_redux.proofs.ReadAll.{front_none, front_joins}
+use Rattle.buffer_redux.specs.ReadAllLaws.{HandedFront-none, HandedFront-joins}
 use Rattle.buffer_redux.proofs.Retrying.{HandsNothing}
 use Rattle.buffer_redux.proofs.Searching.{ends_in, first_through, lacks_none, lacks_both}
 
@@ -67,7 +67,7 @@ module _ {S P : Type 0} {step : Step (Buffered S P) (Unit {0})} (remaining : S �
     (byte : ℕ) where
   pub shows_none : (s : Buffered S P) → IsBlock s.block → Shows remaining rules step byte s [] s
   shows_none s whole = record {
-    front = front_none remaining rules s whole;
+    front = HandedFront-none remaining rules s whole;
     plain = lacks_none byte;
     faults = OnlyInterrupts-none s.log.reads.faults;
     steps = (0, refl);
@@ -91,7 +91,7 @@ module _ {S P : Type 0} {step : Step (Buffered S P) (Unit {0})} (remaining : S �
         → HandedFront remaining rules m (take n m.block.bytes) t → DropsFirst rules n m t
         → Passes remaining rules step byte s (handed ++ take n m.block.bytes) t
     passes_first t n within plain went gone = record {
-      front = front_joins remaining rules s m t handed (take n m.block.bytes) before.front went;
+      front = HandedFront-joins remaining rules s m t handed (take n m.block.bytes) before.front went;
       plain = lacks_both byte handed (take n m.block.bytes) before.plain plain;
       faults = told_only s.log m.log t.log (drops_told rules m t n gone) before.faults;
       steps = steps_dropped t (n, within, gone);
@@ -113,7 +113,7 @@ module _ {S P : Type 0} {step : Step (Buffered S P) (Unit {0})} (remaining : S �
       pub front_filled : (answer : Result (Unit {0}) Error) (t : Buffered S P) → step m answer t
           → HandedFront remaining rules s handed t
       front_filled answer t f = subst (λ l. HandedFront remaining rules s l t) (append-nil handed)
-          (front_joins remaining rules s m t handed [] before.front (hands.front m answer t f))
+          (HandedFront-joins remaining rules s m t handed [] before.front (hands.front m answer t f))
 
       pub passes_filled : (t : Buffered S P) → step m (Ok tt) t → length m.block.bytes < length t.block.bytes
           → Shows remaining rules step byte s handed t

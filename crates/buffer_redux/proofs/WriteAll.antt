@@ -1,22 +1,20 @@
 -- A write of all bytes, write after write.
-use Rattle.std.proofs.Common.{◌≡◌, ◌≢◌, ℕ, suc, ◌+◌, ◌-◌, ◌<◌, ◌≤◌, List, [], ◌++◌, length, take, drop, Result, Ok, Err, refl, sym, ap, subst, ◌∙◌, arith, le_refl, le_trans, inl, inr, append-nil, take-add, length-drop}
-use Rattle.std.proofs.lemmas.Slice.{between_to_end}
-use Rattle.std.specs.IoError.{error_kind}
+use Rattle.std.proofs.Common.{◌≡◌, ℕ, suc, ◌+◌, ◌<◌, ◌≤◌, List, [], ◌++◌, length, take, drop, Result, Ok, Err, refl, sym, ap, subst, ◌∙◌, arith, le_refl, le_trans, append-nil, take-add, length-drop}
 use Rattle.std.specs.declared.io.Error.{Error}
 use Rattle.std.specs.declared.io.ErrorKind.{ErrorKind}
-use Rattle.std.specs.declared.io.ErrorKind.TheVariants.{Interrupted, WriteZero}
-use Rattle.std.specs.Io.{WritesAtMost}
+use Rattle.std.specs.declared.io.ErrorKind.TheVariants.{WriteZero}
 use Rattle.redux_buffer.specs.Block.{IsBlock}
 use Rattle.redux_buffer.specs.LogGrows.{WriteLogGrows-none, WriteLogGrows-joins}
+use Rattle.redux_buffer.specs.Retried.{InterruptedSteps-before, Retried, Retried-once}
 use Rattle.redux_buffer.specs.StreamLog.{StreamLog, portion}
 use Rattle.buffer_redux.specs.Policy.{WriteRules}
-use Rattle.buffer_redux.specs.AllBytes.{GoesBy, EndsBy, GaveUp}
+use Rattle.buffer_redux.specs.AllBytes.{EndsBy}
 use Rattle.buffer_redux.specs.Buffered.{Buffered, InnerWent}
 use Rattle.buffer_redux.specs.BufWriter.{Writes, WriterKeeps}
-use Rattle.buffer_redux.specs.WriterLaws.{Writes-caused, WritesInOrder-none, WritesInOrder-joins}
-use Rattle.buffer_redux.specs.WriteAll.{WriteTurns, WriteEnded, TookFront, WritesAll}
-use Rattle.buffer_redux.proofs.WriteAllCauses.{all_caused, all_steadily}
-use Rattle.buffer_redux.proofs.WriterFacts.{writes_keep, writes_steadily, writes_nothing}
+use Rattle.buffer_redux.specs.WriterLaws.{WritesInOrder-none, WritesInOrder-joins}
+use Rattle.buffer_redux.specs.WriteAll.{OneWrite, WriteTurns, TookFront, WritesAll}
+use Rattle.buffer_redux.proofs.WriteAllCauses.{turn_caused, turn_steady}
+use Rattle.buffer_redux.proofs.WriterFacts.{writes_keep}
 
 -- what a write keeps
 pub writer_keeps : {S P : Type 0} (tells : S → StreamLog) (trace : S → S → Type 0) (rules : WriteRules P)
@@ -42,49 +40,17 @@ zero_on n = omega arith
 pub one_more : (k : ℕ) → suc k ≡ k + 1
 one_more k = omega arith
 
--- a write of the slice from `at` on is one of the bytes that are left
-pub bound_rest : (answer : Result ℕ Error) (bs : List ℕ) (at : ℕ)
-    → WritesAtMost answer (take (length bs - at) (drop at bs)) → WritesAtMost answer (drop at bs)
-bound_rest answer bs at bound = subst (WritesAtMost answer) (between_to_end bs at (length bs) (le_refl _)) bound
-
--- one write, with this answer
-pub record OneWrite {S P : Type 0} (tells : S → StreamLog) (trace : S → S → Type 0) (rules : WriteRules P)
-    (s : Buffered S P) (bs : List ℕ) (answer : Result ℕ Error) (t : Buffered S P) : Type 0 where
-  pub steps : Writes rules s bs answer t
-  pub whole : IsBlock s.block × IsBlock t.block
-  pub went : InnerWent tells trace s t
-
-pub one_rest : {S P : Type 0} (tells : S → StreamLog) (trace : S → S → Type 0) (rules : WriteRules P)
-    (m : Buffered S P) (bs : List ℕ) (at : ℕ) (answer : Result ℕ Error) (t : Buffered S P) → IsBlock m.block
-    → IsBlock t.block → Writes rules m (take (length bs - at) (drop at bs)) answer t → InnerWent tells trace m t
-    → OneWrite tells trace rules m (drop at bs) answer t
-one_rest tells trace rules m bs at answer t before after steps went = record {
-  steps = subst (λ l. Writes rules m l answer t) (between_to_end bs at (length bs) (le_refl _)) steps;
-  whole = (before, after);
-  went = went;
-}
-
--- what a turn took that was gone on from, and one that ended it
-pub further_by : (answer : Result ℕ Error) (n : ℕ) → GoesBy answer n → (bs : List ℕ) → WritesAtMost answer bs
-    → (n ≤ length bs) × (portion bs answer ≡ take n bs)
-further_by (Ok k) n goes bs bound = (omega (arith, goes.1, bound), ap (λ x. take x bs) (sym goes.1))
-further_by (Err e) n goes bs bound = (omega (arith, goes.1), sym (ap (λ x. take x bs) goes.1))
-
+-- what a turn took that ended the call
 pub none_taken : (nothing : ErrorKind) (answer : Result ℕ Error) (e : Error) → EndsBy nothing answer e → (bs : List ℕ)
     → portion bs answer ≡ []
 none_taken nothing (Ok k) e ends bs = ap (λ x. take x bs) ends.0
 none_taken nothing (Err x) e ends bs = refl
 
-pub not_interrupted : (nothing : ErrorKind) → nothing ≢ Interrupted → (answer : Result ℕ Error) (e : Error)
-    → EndsBy nothing answer e → error_kind e ≢ Interrupted
-not_interrupted nothing other (Ok k) e ends odd = other (sym ends.1 ∙ odd)
-not_interrupted nothing other (Err x) e ends odd = ends.1 odd
-
 module _ {S P : Type 0} (tells : S → StreamLog) (trace : S → S → Type 0) (rules : WriteRules P) where
   -- `turns` turns took the bytes before `at` in
   pub record Turned (s : Buffered S P) (bs : List ℕ) (turns at : ℕ) (t : Buffered S P) : Type 0 where
     pub within : at ≤ length bs
-    pub run : WriteTurns rules bs turns at s t
+    pub run : WriteTurns tells trace rules bs turns at s t
     pub front : TookFront tells trace rules s (take at bs) t
 
 module _ {S P : Type 0} (tells : S → StreamLog) (trace : S → S → Type 0)
@@ -133,12 +99,20 @@ module _ {S P : Type 0} (tells : S → StreamLog) (trace : S → S → Type 0)
     keeps = keeps_joins s m t p.keeps q.keeps;
   }
 
-  front_of : (s : Buffered S P) (bs : List ℕ) (answer : Result ℕ Error) (t : Buffered S P)
-      → OneWrite tells trace rules s bs answer t → TookFront tells trace rules s (portion bs answer) t
-  front_of s bs answer t w = record {
-    in_order = (writes_keep rules s bs answer t w.steps).in_order;
-    keeps = writer_keeps tells trace rules s bs answer t w.whole.1 w.steps w.went;
+  front_of : (bs : List ℕ) (s : Buffered S P) (answer : Result ℕ Error) (t : Buffered S P)
+      → OneWrite tells trace rules bs s answer t → TookFront tells trace rules s (portion bs answer) t
+  front_of bs s answer t one = record {
+    in_order = (writes_keep rules s bs answer t one.steps).in_order;
+    keeps = writer_keeps tells trace rules s bs answer t one.whole.1 one.steps one.went;
   }
+
+  -- writes that were interrupted took nothing in
+  front_before : (bs : List ℕ) (s : Buffered S P) (answer : Result ℕ Error) (t : Buffered S P)
+      → (row : Retried (OneWrite tells trace rules bs) s answer t) → TookFront tells trace rules s [] row.last
+  front_before bs s answer t row =
+      InterruptedSteps-before (OneWrite tells trace rules bs) (λ u. TookFront tells trace rules u [] row.last)
+      (λ u e m is one front. front_joins u m row.last [] [] (front_of bs u (Err e) m one) front)
+      row.count s row.last row.interrupted (front_none row.last row.went.whole.0 row.went.went.told_before)
 
   pub turned_none : (s : Buffered S P) (bs : List ℕ) → IsBlock s.block → s.log ≡ tells s.inner
       → Turned tells trace rules s bs 0 0 s
@@ -147,78 +121,66 @@ module _ {S P : Type 0} (tells : S → StreamLog) (trace : S → S → Type 0)
 
   module _ (s : Buffered S P) (bs : List ℕ) (turns at : ℕ) (m : Buffered S P)
       (before : Turned tells trace rules s bs turns at m) where
-    ended : (answer : Result (Unit {0}) Error) (t : Buffered S P) → TookFront tells trace rules s (take at bs) t
-        → WriteEnded rules bs turns at m answer t → WritesAll tells trace rules s bs answer t
-    ended answer t front is =
-        let keeps = before.front.keeps in
-        record {
-          turns = turns;
-          count = at;
-          within = before.within;
-          last = m;
-          run = before.run;
-          first = before.front;
-          front = front;
-          ended = is;
-          caused = all_caused rules s bs turns at m t before.run keeps.grows keeps.claims answer is;
-          steadily = all_steadily rules s bs turns at m t before.run keeps.grows keeps.claims answer is;
-        }
-
-    -- one more write of the bytes that are left
+    -- one more write of the bytes that are left, made again where it was interrupted
     module _ (answer : Result ℕ Error) (t : Buffered S P) (fewer : at < length bs)
-        (one : OneWrite tells trace rules m (drop at bs) answer t) where
-      both : TookFront tells trace rules s (take at bs ++ portion (drop at bs) answer) t
-      both = front_joins s m t (take at bs) (portion (drop at bs) answer) before.front
-          (front_of m (drop at bs) answer t one)
+        (row : Retried (OneWrite tells trace rules (drop at bs)) m answer t) where
+      begun : TookFront tells trace rules s (take at bs) row.last
+      begun = subst (λ l. TookFront tells trace rules s l row.last) (append-nil (take at bs))
+          (front_joins s m row.last (take at bs) [] before.front (front_before (drop at bs) m answer t row))
 
-      pub turned_more : (n : ℕ) → GoesBy answer n → WritesAtMost answer (drop at bs)
-          → Turned tells trace rules s bs (turns + 1) (at + n) t
-      turned_more n goes bound =
-          let step = further_by answer n goes (drop at bs) bound in
-          record {
-            within = omega (arith, step.0, fewer, length-drop at bs);
-            run = subst (λ k. WriteTurns rules bs k (at + n) s t) (one_more turns) (
-              at,
-              m,
-              before.run,
-              record { fewer = fewer; answer = answer; steps = one.steps; further = n; goes = goes; adds = refl },
-            );
-            front = subst (λ l. TookFront tells trace rules s l t)
-                (ap (λ l. take at bs ++ l) step.1 ∙ sym (take-add at n bs)) both;
-          }
+      both : TookFront tells trace rules s (take at bs ++ portion (drop at bs) answer) t
+      both = front_joins s row.last t (take at bs) (portion (drop at bs) answer) begun
+          (front_of (drop at bs) row.last answer t row.went)
 
       pub ended_failed : (e : Error) → EndsBy WriteZero answer e → WritesAll tells trace rules s bs (Err e) t
       ended_failed e ends =
           let some : 0 < length (drop at bs) = omega (arith, fewer, length-drop at bs) in
-          ended (Err e) t (subst (λ l. TookFront tells trace rules s l t)
-          (ap (λ l. take at bs ++ l) (none_taken WriteZero answer e ends (drop at bs)) ∙ append-nil (take at bs)) both)
-          (inl (record {
-            some = some;
-            answer = answer;
-            ends = ends;
-            caused = Writes-caused rules m (drop at bs) answer t one.steps;
-            empty = λ is. writes_nothing rules m (drop at bs) answer t one.steps is some;
-            steadily = writes_steadily rules m (drop at bs) answer t one.steps;
-            steps = one.steps;
-          }))
+          let keeps = begun.keeps in
+          record {
+            turns = turns;
+            count = at;
+            within = before.within;
+            last = m;
+            run = before.run;
+            first = before.front;
+            front = subst (λ l. TookFront tells trace rules s l t)
+                (ap (λ l. take at bs ++ l) (none_taken WriteZero answer e ends (drop at bs)) ∙ append-nil (take at bs)) both;
+            ended = record { some = some; answer = answer; ends = ends; row = row };
+            caused = turn_caused rules (drop at bs) e s row.last t some answer ends row.went.steps keeps.grows;
+            steadily = λ steady. turn_steady rules (drop at bs) e s row.last t some answer ends row.went.steps keeps.grows
+                (ap (λ c. c.steady) keeps.claims ∙ steady);
+          }
+
+    pub turned_more : (n : ℕ) (t : Buffered S P) → at < length bs
+        → Retried (OneWrite tells trace rules (drop at bs)) m (Ok n) t → 0 < n
+        → Turned tells trace rules s bs (turns + 1) (at + n) t
+    turned_more n t fewer row some = record {
+      within = omega (arith, row.went.bound, fewer, length-drop at bs);
+      run = subst (λ k. WriteTurns tells trace rules bs k (at + n) s t) (one_more turns)
+          (at, m, before.run, record { fewer = fewer; further = n; some = some; row = row; adds = refl });
+      front = subst (λ l. TookFront tells trace rules s l t) (sym (take-add at n bs)) (both (Ok n) t fewer row);
+    }
 
     pub ended_all : length bs ≤ at → WritesAll tells trace rules s bs (Ok tt) m
-    ended_all long = ended (Ok tt) m before.front (omega (arith, long, before.within), refl)
-
-    pub ended_late : (e : Error) → GaveUp turns at (length bs) e → WritesAll tells trace rules s bs (Err e) m
-    ended_late e late = ended (Err e) m before.front (inr (late, refl))
+    ended_all long = record {
+      turns = turns;
+      count = at;
+      within = before.within;
+      last = m;
+      run = before.run;
+      first = before.front;
+      front = before.front;
+      ended = (omega (arith, long, before.within), refl);
+      caused = tt;
+      steadily = λ _. tt;
+    }
 
   -- the first write of some bytes
-  module _ (s : Buffered S P) (bs : List ℕ) (answer : Result ℕ Error) (t : Buffered S P) (some : 0 < length bs)
-      (one : OneWrite tells trace rules s bs answer t) where
-    pub first_more : (n : ℕ) → GoesBy answer n → WritesAtMost answer bs → Turned tells trace rules s bs 1 n t
-    first_more n goes bound =
-        subst (λ k. Turned tells trace rules s bs 1 k t) (zero_on n)
-        (turned_more s bs 0 0 s (turned_none s bs one.whole.0 one.went.told_before) answer t some one n goes bound)
-
-    pub first_failed : (e : Error) → EndsBy WriteZero answer e → WritesAll tells trace rules s bs (Err e) t
-    first_failed e ends =
-        ended_failed s bs 0 0 s (turned_none s bs one.whole.0 one.went.told_before) answer t some one e ends
+  pub first_more : (s : Buffered S P) (bs : List ℕ) (n : ℕ) (t : Buffered S P) → 0 < length bs
+      → Turned tells trace rules s bs 0 0 s → Retried (OneWrite tells trace rules bs) s (Ok n) t → 0 < n
+      → Turned tells trace rules s bs 1 n t
+  first_more s bs n t some fresh row more = subst (λ k. Turned tells trace rules s bs 1 k t) (zero_on n)
+      (turned_more s bs 0 0 s fresh n t some row more)
 
   -- no byte, and all bytes at once
   pub all_none : (s : Buffered S P) → IsBlock s.block → s.log ≡ tells s.inner
@@ -226,8 +188,7 @@ module _ {S P : Type 0} (tells : S → StreamLog) (trace : S → S → Type 0)
   all_none s whole told = ended_all s [] 0 0 s (turned_none s [] whole told) (le_refl 0)
 
   pub all_at_once : (s : Buffered S P) (bs : List ℕ) (n : ℕ) (t : Buffered S P) → 0 < length bs → n ≡ length bs
-      → OneWrite tells trace rules s bs (Ok n) t → WritesAll tells trace rules s bs (Ok tt) t
-  all_at_once s bs n t some full w =
-      ended_all s bs 1 n t
-      (first_more s bs (Ok n) t some w n (omega (arith, some, full), refl) (omega (arith, full)))
-      (omega (arith, full))
+      → OneWrite tells trace rules bs s (Ok n) t → WritesAll tells trace rules s bs (Ok tt) t
+  all_at_once s bs n t some full one =
+      ended_all s bs 1 n t (first_more s bs n t some (turned_none s bs one.whole.0 one.went.told_before)
+      (Retried-once (OneWrite tells trace rules bs) s n t one) (omega (arith, some, full))) (omega (arith, full))

@@ -2,12 +2,12 @@
 use Rattle.std.specs.Prelude.{◌≡◌, ℕ, ◌+◌, ◌-◌, ◌<◌, ◌≤◌, ◌⊎◌, List, [], ◌∷◌, ◌++◌, length, min, Option, Some, Result, Ok, Err, MatchResult, true, IfErr, IsErrAnd, OnOk, OnErr}
 use Rattle.std.specs.IoError.{error_kind}
 use Rattle.std.specs.declared.io.Error.{Error}
-use Rattle.std.specs.declared.io.ErrorKind.TheVariants.{WriteZero, TimedOut}
+use Rattle.std.specs.declared.io.ErrorKind.TheVariants.{WriteZero}
 use Rattle.std.specs.declared.io.traits.SeekFrom.{SeekFrom}
 use Rattle.redux_buffer.specs.Block.{Block, IsBlock, Extends, MakesRoom, usable}
 use Rattle.redux_buffer.specs.LogGrows.{WriteLogGrows}
 use Rattle.redux_buffer.specs.StreamLog.{StreamLog, WriteLog, Readies, SeekTells, portion, after_write, after_flush}
-use Rattle.redux_buffer.specs.Faults.{IsInterrupt, MetInterrupts, SendErrorCaused}
+use Rattle.redux_buffer.specs.Faults.{MetInterrupts, SendErrorCaused}
 use Rattle.redux_buffer.specs.Transfer.{DoesNothing, FailedRow, Sends}
 use Rattle.buffer_redux.specs.declared.policy.FlushAmt.{FlushAmt}
 use Rattle.buffer_redux.specs.Policy.{WriteRules, BeforeWrite, AfterWrite}
@@ -211,20 +211,10 @@ pub record FlushedAlong {S P : Type 0} (tells : S → StreamLog) (trace : S → 
   pub received : t.log.writes.received ≡ s.log.writes.received ++ (s.block.bytes ++ accepted)
   pub flushed : t.log.writes.flushed ≡ t.log.writes.received
 
--- a write was interrupted since
-pub record WasInterrupted (old new : WriteLog) : Type 0 where
-  pub before : List Error
-  pub interrupt : Error
-  pub is : IsInterrupt interrupt
-  pub after : List Error
-  pub faults : new.faults ≡ ((old.faults ++ before) ++ interrupt ∷ []) ++ after
-
--- the inner writer ended them with this error: it is its last fault, or a write took nothing of something, or writes were
--- interrupted again and again, so that 2^64 - 1 of them didn't take all bytes of a slice
+-- the inner writer ended them with this error: it is its last fault, or a write took nothing of something
 abbrev pub WriterStopped : WriteLog → WriteLog → Error → Type 0
 WriterStopped old new e = record { before : List Error; faults : new.faults ≡ (old.faults ++ before) ++ e ∷ [] }
-    ⊎ (record { is_write_zero : error_kind e ≡ WriteZero; zero_writes : old.zero_writes < new.zero_writes }
-    ⊎ ((error_kind e ≡ TimedOut) × WasInterrupted old new))
+    ⊎ record { is_write_zero : error_kind e ≡ WriteZero; zero_writes : old.zero_writes < new.zero_writes }
 
 -- calls accepted a beginning of these bytes, of which none is lost
 pub record BegunAlong {S P : Type 0} (tells : S → StreamLog) (trace : S → S → Type 0) (rules : WriteRules P)

@@ -33,6 +33,7 @@ pub mod ReaderLaws
 pub mod Remaining
 pub mod RemainingLaws
 pub mod ReadAll
+pub mod ReadAllLaws
 pub mod ReadInside
 pub mod FillRetried
 pub mod Peek

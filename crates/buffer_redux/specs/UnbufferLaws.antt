@@ -1,8 +1,10 @@
 -- What readers, or writers, of one stream do, one after another.
-use Rattle.std.specs.Prelude.{◌≡◌, ◌≤◌, ℕ, List, [], ◌++◌, Option, None, Some}
+use Rattle.std.specs.Prelude.{◌≡◌, ◌≤◌, ℕ, List, [], ◌++◌, Option, None, Some, Result}
 use Rattle.std.proofs.Common.{sym, ap, ◌∙◌, refl, arith, append_assoc, append-nil}
 use Rattle.std.proofs.lemmas.List.{append_cancel_left, append_cancel_right}
+use Rattle.std.proofs.KnownBytes.{Consumes-nil, Consumes-trans}
 use Rattle.std.specs.Io.KnownBytes.{Consumes}
+use Rattle.std.specs.declared.io.Error.{Error}
 use Rattle.redux_buffer.specs.GivesRemaining.{GivesRemaining-none, GivesRemaining-joins, GivesRemaining-ahead}
 use Rattle.redux_buffer.specs.LogGrows.{ReadLogGrows-none, ReadLogGrows-joins}
 use Rattle.buffer_redux.specs.Buffered.{Buffered}
@@ -10,7 +12,8 @@ use Rattle.buffer_redux.specs.BufReader.{ReadsAlong}
 use Rattle.buffer_redux.specs.BufWriter.{WritesInOrder}
 use Rattle.buffer_redux.specs.Policy.{ReadRules}
 use Rattle.buffer_redux.specs.WriterLaws.{WritesInOrder-joins}
-use Rattle.buffer_redux.specs.Unbuffer.{HandsOutInOrder, StreamWent, Unbuffered, unbuffer_remaining, unbuffered}
+use Rattle.buffer_redux.specs.Unbuffer.{HandsOutInOrder, StreamWent, UnbufferHands, UnbufferReads, Unbuffered, unbuffer_remaining, unbuffered}
+use Rattle.buffer_redux.specs.ReadAll.{SliceRead}
 
 -- known bytes are those that went, and then what is left
 pub left_then : (left left' : Option (List ℕ)) (bytes lost : List ℕ) → left ≡ Some bytes → Consumes left left' lost
@@ -73,6 +76,27 @@ module _ {R : Type 0} (remaining : R → Option (List ℕ)) where
       left_then (unbuffer_remaining remaining s) (unbuffer_remaining remaining t) text bytes known
       (GivesRemaining-ahead (remaining s.inner) (remaining t.inner) s.log.reads t.log.reads s.left t.left bytes
       went.order.got went.known went.order.given went.order.equal)
+
+  -- reads of one that gave its buffer up
+  pub UnbufferHands-none : (s : Unbuffered R) → UnbufferHands remaining s [] s
+  UnbufferHands-none s = record {
+    order = HandsOutInOrder-none s;
+    known = Consumes-nil (unbuffer_remaining remaining s);
+    grows = ReadLogGrows-none s.log.reads;
+  }
+
+  pub UnbufferHands-joins : (s m t : Unbuffered R) (a b : List ℕ) → UnbufferHands remaining s a m → UnbufferHands remaining m b t
+      → UnbufferHands remaining s (a ++ b) t
+  UnbufferHands-joins s m t a b p q = record {
+    order = HandsOutInOrder-joins s m t a b p.order q.order;
+    known = Consumes-trans (unbuffer_remaining remaining s) (unbuffer_remaining remaining m) (unbuffer_remaining remaining t) a b
+        p.known q.known;
+    grows = ReadLogGrows-joins s.log.reads m.log.reads t.log.reads p.grows q.grows;
+  }
+
+  pub UnbufferReads-tells : (s : Unbuffered R) (was : List ℕ) (answer : Result ℕ Error) (slice : List ℕ) (t : Unbuffered R)
+      → UnbufferReads remaining s was answer slice t → SliceRead (UnbufferHands remaining) s was answer slice t
+  UnbufferReads-tells s was answer slice t r = record { bound = r.bound; size = r.size; front = r.handed }
 
   -- any calls of a buffered reader do so
   pub ReadsAlong-stream : {P : Type 0} (rules : ReadRules P) (s : Buffered R P) (bytes : List ℕ) (t : Buffered R P)

@@ -11,13 +11,13 @@ use Rattle.std.specs.declared.io.ErrorKind.TheVariants.{WriteZero}
 use Rattle.redux_buffer.specs.Block.{Block}
 use Rattle.redux_buffer.specs.Transfer.{Sends}
 use Rattle.redux_buffer.specs.Faults.{OnlyInterrupted, OnlyInterrupted-none, FaultedAfter-after, IsInterrupt, MetInterrupts, MetInterrupts-none, MetInterrupts-joins, MetInterrupts-err, TookNothing, SendErrorCaused}
+use Rattle.redux_buffer.specs.Retried.{InterruptedSteps-before, Retried}
 use Rattle.redux_buffer.specs.StreamLog.{StreamLog, WriteLog, after_write, with_zero, zero_of_some, zero_of_none}
 use Rattle.buffer_redux.specs.declared.policy.FlushAmt.{FlushAmt}
 use Rattle.buffer_redux.specs.Policy.{WriteRules}
 use Rattle.buffer_redux.specs.Buffered.{Buffered, GoesPast, StaysInside, InnerWent}
-use Rattle.buffer_redux.specs.AllBytes.{GoesBy}
 use Rattle.buffer_redux.specs.BufWriter.{WritesInOrder, FlushesAmount, TakesIn, Wrote, Writes, WriteErrorCaused}
-use Rattle.buffer_redux.specs.WriteAll.{WriteTurns, WritesAll}
+use Rattle.buffer_redux.specs.WriteAll.{OneWrite, WriteTurns, WritesAll}
 
 -- no call accepts nothing, and two traces of calls join
 pub WritesInOrder-none : {S P : Type 0} (s : Buffered S P) → WritesInOrder s [] s
@@ -234,30 +234,42 @@ module _ {S P : Type 0} (rules : WriteRules P) where
       }))
 
   module _ (nothing_after : FlushesNothingAfter rules) where
-    -- a write that is gone on from
-    goes_met : (s : Buffered S P) (bs : List ℕ) (answer : Result ℕ Error) (further : ℕ) (t : Buffered S P)
-        → Writes rules s bs answer t → GoesBy answer further → MetInterrupts s.log.writes t.log.writes
-    goes_met s bs (Ok n) further t wrote goes =
+    -- a write that was interrupted, one that took some bytes, and such a one behind others
+    interrupted_met : (s : Buffered S P) (bs : List ℕ) (e : Error) (t : Buffered S P) → IsInterrupt e
+        → Writes rules s bs (Err e) t → MetInterrupts s.log.writes t.log.writes
+    interrupted_met s bs e t is failed = elim (Writes-caused s bs (Err e) t failed) [
+      | inl refused ↦ subst (λ l. MetInterrupts s.log.writes l.writes) (sym refused.told) (MetInterrupts-none s.log.writes)
+      | inr caused ↦ MetInterrupts-err s.log.writes t.log.writes e is caused
+    ]
+
+    took_met : (s : Buffered S P) (bs : List ℕ) (n : ℕ) (t : Buffered S P) → 0 < n → Wrote rules s bs n t
+        → MetInterrupts s.log.writes t.log.writes
+    took_met s bs n t some wrote =
         let met = Wrote-met rules s bs n t nothing_after wrote in
         elim met.1 [
           | inl only ↦ record { interrupts = met.0; only = only }
-          | inr nothing ↦ absurd (omega (arith, goes.0, goes.1, nothing.0))
+          | inr nothing ↦ absurd (omega (arith, some, nothing.0))
         ]
-    goes_met s bs (Err e) further t failed goes = elim (Writes-caused s bs (Err e) t failed) [
-      | inl refused ↦ subst (λ l. MetInterrupts s.log.writes l.writes) (sym refused.told) (MetInterrupts-none s.log.writes)
-      | inr caused ↦ MetInterrupts-err s.log.writes t.log.writes e goes.0 caused
-    ]
 
-    turns_met : (bs : List ℕ) (turns count : ℕ) (s t : Buffered S P) → WriteTurns rules bs turns count s t
-        → MetInterrupts s.log.writes t.log.writes
-    turns_met bs zero count s t run =
-        subst (λ x. MetInterrupts s.log.writes x.log.writes) run.1 (MetInterrupts-none s.log.writes)
-    turns_met bs (suc turns) count s t (before, m, run, turn) =
-        MetInterrupts-joins s.log.writes m.log.writes t.log.writes (turns_met bs turns before s m run)
-        (goes_met m (drop before bs) turn.answer turn.further t turn.steps turn.goes)
+    module _ (tells : S → StreamLog) (trace : S → S → Type 0) where
+      row_met : (s : Buffered S P) (bs : List ℕ) (n : ℕ) (t : Buffered S P) → 0 < n
+          → Retried (OneWrite tells trace rules bs) s (Ok n) t → MetInterrupts s.log.writes t.log.writes
+      row_met s bs n t some row =
+          InterruptedSteps-before (OneWrite tells trace rules bs) (λ u. MetInterrupts u.log.writes t.log.writes)
+          (λ u e m is one met. MetInterrupts-joins u.log.writes m.log.writes t.log.writes
+          (interrupted_met u bs e m is one.steps) met)
+          row.count s row.last row.interrupted (took_met row.last bs n t some row.went.steps)
 
-    -- an Ok write of all bytes met interrupted writes alone
-    pub WritesAll-met : (tells : S → StreamLog) (trace : S → S → Type 0) (s : Buffered S P) (bs : List ℕ) (t : Buffered S P)
-        → WritesAll tells trace rules s bs (Ok tt) t → MetInterrupts s.log.writes t.log.writes
-    WritesAll-met tells trace s bs t all = subst (λ x. MetInterrupts s.log.writes x.log.writes) (sym all.ended.1)
-        (turns_met bs all.turns all.count s all.last all.run)
+      turns_met : (bs : List ℕ) (turns count : ℕ) (s t : Buffered S P)
+          → WriteTurns tells trace rules bs turns count s t → MetInterrupts s.log.writes t.log.writes
+      turns_met bs zero count s t run =
+          subst (λ x. MetInterrupts s.log.writes x.log.writes) run.1 (MetInterrupts-none s.log.writes)
+      turns_met bs (suc turns) count s t (before, m, run, turn) =
+          MetInterrupts-joins s.log.writes m.log.writes t.log.writes (turns_met bs turns before s m run)
+          (row_met m (drop before bs) turn.further t turn.some turn.row)
+
+      -- an Ok write of all bytes met interrupted writes alone
+      pub WritesAll-met : (s : Buffered S P) (bs : List ℕ) (t : Buffered S P)
+          → WritesAll tells trace rules s bs (Ok tt) t → MetInterrupts s.log.writes t.log.writes
+      WritesAll-met s bs t all = subst (λ x. MetInterrupts s.log.writes x.log.writes) (sym all.ended.1)
+          (turns_met bs all.turns all.count s all.last all.run)

@@ -6,7 +6,7 @@ use Rattle.std.proofs.lemmas.List.{append_cancel_left}
 use Rattle.std.specs.Io.KnownBytes.{Appends}
 use Rattle.std.specs.IoError.{error_kind}
 use Rattle.std.specs.declared.io.Error.{Error}
-use Rattle.redux_buffer.specs.Faults.{FaultedAfter, IsInterrupt, IsMemory, SendErrorCaused, TookNothing}
+use Rattle.redux_buffer.specs.Faults.{FaultedAfter, IsMemory, SendErrorCaused, TookNothing}
 use Rattle.redux_buffer.specs.LogGrows.{WriteLogGrows, WriteLogGrows-none, WriteLogGrows-joins, WritesGoOn}
 use Rattle.redux_buffer.specs.Memory.{fault-memory, send-memory, writer-takes_some, writer_log}
 use Rattle.redux_buffer.specs.StreamLog.{StreamLog, WriteLog, after_flush}
@@ -15,7 +15,7 @@ use Rattle.redux_buffer.specs.declared.tell.memory.MemoryWriter.{MemoryWriter}
 use Rattle.redux_buffer.specs.declared.tell.told.Told.{Told}
 use Rattle.buffer_redux.specs.Policy.{WriteRules}
 use Rattle.buffer_redux.specs.Buffered.{Buffered, with_block}
-use Rattle.buffer_redux.specs.BufWriter.{WritesInOrder, WriterKeeps, WasSent, WasFlushed, WritesAlong, FlushedAlong, WasInterrupted, WriterStopped, BegunAlong, StoppedAlong, FrontAlong, AllAlong, AllFlushed, Flushes}
+use Rattle.buffer_redux.specs.BufWriter.{WritesInOrder, WriterKeeps, WasSent, WasFlushed, WritesAlong, FlushedAlong, WriterStopped, BegunAlong, StoppedAlong, FrontAlong, AllAlong, AllFlushed, Flushes}
 use Rattle.buffer_redux.specs.WriteAll.{WritesAll}
 use Rattle.buffer_redux.specs.WriterLaws.{WritesInOrder-none, WritesInOrder-joins, WritesInOrder-contents}
 
@@ -36,41 +36,6 @@ pub Flushes-once : {S P : Type 0} (s t : Buffered S P) (answer : Result (Unit {0
     → t.log.writes.flushes ≤ s.log.writes.flushes + 1
 Flushes-once s t answer f = flush_counted s t f.sent_log answer f.sending f.sends.sent.flushes f.ended
 
--- what was interrupted in a part of a trace was so in the whole
-pub WasInterrupted-after : (a b c : WriteLog) → WriteLogGrows a b → WasInterrupted b c → WasInterrupted a c
-WasInterrupted-after a b c grows was = record {
-  before = grows.faults.more ++ was.before;
-  interrupt = was.interrupt;
-  is = was.is;
-  after = was.after;
-  faults = was.faults ∙ ap (λ l. ((l ++ was.before) ++ was.interrupt ∷ []) ++ was.after) grows.faults.equal
-      ∙ ap (λ l. (l ++ was.interrupt ∷ []) ++ was.after) (append_assoc a.faults grows.faults.more was.before);
-}
-
-pub WasInterrupted-before : (a b c : WriteLog) → WasInterrupted a b → WriteLogGrows b c → WasInterrupted a c
-WasInterrupted-before a b c was grows = record {
-  before = was.before;
-  interrupt = was.interrupt;
-  is = was.is;
-  after = was.after ++ grows.faults.more;
-  faults = grows.faults.equal ∙ ap (λ l. l ++ grows.faults.more) was.faults
-      ∙ append_assoc ((a.faults ++ was.before) ++ was.interrupt ∷ []) was.after grows.faults.more;
-}
-
--- a send that answers `Interrupted` was interrupted
-pub WasInterrupted-send : (old new : WriteLog) (e : Error) → IsInterrupt e → SendErrorCaused old new e
-    → WasInterrupted old new
-WasInterrupted-send old new e is s = elim s.cause [
-  | inl nothing ↦ (let odd = nothing.is_write_zero in cc)
-  | inr fault ↦ record {
-    before = s.interrupts;
-    interrupt = e;
-    is = is;
-    after = [];
-    faults = fault.faults ∙ sym (append-nil ((old.faults ++ s.interrupts) ++ e ∷ []));
-  }
-]
-
 -- what ended a later trace ended the whole
 pub WriterStopped-after : (a b c : WriteLog) (e : Error) → WriteLogGrows a b → WriterStopped b c e → WriterStopped a c e
 WriterStopped-after a b c e grows (inl fault) = inl (record {
@@ -78,17 +43,16 @@ WriterStopped-after a b c e grows (inl fault) = inl (record {
   faults = fault.faults ∙ ap (λ l. (l ++ fault.before) ++ e ∷ []) grows.faults.equal
       ∙ ap (λ l. l ++ e ∷ []) (append_assoc a.faults grows.faults.more fault.before);
 })
-WriterStopped-after a b c e grows (inr (inl zero)) = inr (inl (record
-    { is_write_zero = zero.is_write_zero; zero_writes = omega (arith, zero.zero_writes, grows.zero_writes) }))
-WriterStopped-after a b c e grows (inr (inr late)) = inr (inr (late.0, WasInterrupted-after a b c grows late.1))
+WriterStopped-after a b c e grows (inr zero) = inr (record
+    { is_write_zero = zero.is_write_zero; zero_writes = omega (arith, zero.zero_writes, grows.zero_writes) })
 
 -- what a send met ended it
 pub WriterStopped-send : (old new : WriteLog) (e : Error) → SendErrorCaused old new e → WriterStopped old new e
 WriterStopped-send old new e s = of s.cause
   where
     of : TookNothing s.interrupts old new (error_kind e) ⊎ FaultedAfter s.interrupts old new e → WriterStopped old new e
-    of (inl nothing) = inr (inl (record
-        { is_write_zero = nothing.is_write_zero; zero_writes = omega (arith, nothing.zero_writes) }))
+    of (inl nothing) = inr (record
+        { is_write_zero = nothing.is_write_zero; zero_writes = omega (arith, nothing.zero_writes) })
     of (inr fault) = inl (record { before = s.interrupts; faults = fault.faults })
 
 -- a writer in memory stopped for want of memory
@@ -96,12 +60,7 @@ pub WriterStopped-memory : (w : MemoryWriter) (old : WriteLog) (e : Error) → W
     → IsMemory e
 WriterStopped-memory w old e (inl fault) = fault-memory w (old.faults ++ fault.before) e []
     (fault.faults ∙ sym (append-nil ((old.faults ++ fault.before) ++ e ∷ [])))
-WriterStopped-memory w old e (inr (inl zero)) = absurd (omega (arith, zero.zero_writes, writer-takes_some w))
-WriterStopped-memory w old e (inr (inr late)) =
-    let was = late.1 in
-    let memory = fault-memory w (old.faults ++ was.before) was.interrupt was.after was.faults in
-    let interrupt = was.is in
-    absurd (cc)
+WriterStopped-memory w old e (inr zero) = absurd (omega (arith, zero.zero_writes, writer-takes_some w))
 
 -- a flush to a writer in memory failed for want of memory
 pub WasFlushed-memory : {P : Type 0} (trace : MemoryWriter → MemoryWriter → Type 0) (s t : Buffered MemoryWriter P)

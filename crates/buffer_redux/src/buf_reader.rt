@@ -1,10 +1,9 @@
 //! The buffered reader.
-ghost use Rattle.std.specs.Prelude.{◌≡◌, ◌≢◌, ℕ, ◌<◌, ◌≤◌, ◌^◌, [], length, take, min, Ok, Some, IfSome, IfOk, IfErr, OnOk, OnErr, IsOk};
+ghost use Rattle.std.specs.Prelude.{◌≡◌, ℕ, ◌<◌, ◌≤◌, ◌^◌, [], length, take, min, Ok, Some, IfSome, IfOk, OnOk, OnErr, IsOk};
 ghost use Rattle.std.specs.Borrow.{sem, Lends};
 ghost use Rattle.std.specs.Io.{ReadsAtMost, StartsWith};
 ghost use Rattle.std.specs.Io.BufRead.{Rests, DropsConsumable};
 ghost use Rattle.std.specs.Io.KnownBytes.{Consumes, IsAtEnd, ReadConsumes};
-ghost use Rattle.std.specs.IoError.{error_kind};
 ghost use Rattle.redux_buffer.specs.Block.{Plain, Ring, IsBlock, LeavesBytes, MakesRoom, Reserves, capacity_for, round, usable};
 ghost use Rattle.redux_buffer.specs.GrowError.{FitsWithin};
 ghost use Rattle.redux_buffer.specs.StreamLog.{portion};
@@ -309,8 +308,8 @@ impl<R: TellRead, P: ReaderPolicy> Read for BufReader<R, P> {
         Ok(self.hand_out(out))
     }
 
-    /// Reads until the slice is full: after a short read into what is left, and again after one that was interrupted. A read
-    /// that hands out nothing is returned as `UnexpectedEof`, and `TimedOut` comes after 2^64 - 1 reads.
+    /// Reads until the slice is full: after a short read into what is left, and again after one that was interrupted, 64 times in
+    /// a row; the 65th `Interrupted` is returned. A read that hands out nothing is returned as `UnexpectedEof`.
     ///
     /// After an `Err` the bytes that were handed out stand at the front of the slice, and the reader no longer has them.
     #[inline(always)]
@@ -319,7 +318,6 @@ impl<R: TellRead, P: ReaderPolicy> Read for BufReader<R, P> {
         ensures beginning { (count : ℕ) × (count ≤ length out.new) × ReadsInOrder self.old (take count out.new) self.new }
         ensures bytes { OnOk result (Consumes (reader_remaining R.remaining P.rules self.old)
             (reader_remaining R.remaining P.rules self.new) out.new) }
-        ensures retried { IfErr result (λ e. error_kind e ≢ ErrorKind.Interrupted) }
         ensures whole { IsBlock self.new.block }
         ensures steps { ReadsExactly R.remaining P.rules self.old out.old result out.new self.new }
     {

@@ -1,9 +1,8 @@
 //! The buffered writer.
-ghost use Rattle.std.specs.Prelude.{◌≡◌, ◌≢◌, ◌<◌, ◌≤◌, ◌^◌, [], ◌++◌, length, Ok, IfErr, true, OnOk, OnErr, IfOk, IsOk};
+ghost use Rattle.std.specs.Prelude.{◌≡◌, ◌<◌, ◌≤◌, ◌^◌, [], ◌++◌, length, Ok, IfErr, true, OnOk, OnErr, IfOk, IsOk};
 ghost use Rattle.std.specs.Borrow.{sem, Lends};
 ghost use Rattle.std.specs.Io.{WritesAtMost};
 ghost use Rattle.std.specs.Io.KnownBytes.{Appends, Keeps, WriteAppends};
-ghost use Rattle.std.specs.IoError.{error_kind};
 ghost use Rattle.redux_buffer.specs.Block.{Plain, Ring, IsBlock, Reserves, MakesRoom};
 ghost use Rattle.redux_buffer.specs.Block.{capacity_for, round, usable};
 ghost use Rattle.redux_buffer.specs.GrowError.{FitsWithin};
@@ -316,8 +315,8 @@ impl<W: TellWrite, P: WriterPolicy> Write for BufWriter<W, P> {
         Ok(bytes.len())
     }
 
-    /// Writes until all is taken in: after a short write what is left, and after one that was interrupted the same again. A
-    /// write that takes nothing is returned as `WriteZero`, and `TimedOut` comes after 2^64 - 1 writes.
+    /// Writes until all is taken in: after a short write what is left, and after one that was interrupted the same again, 64
+    /// times in a row; the 65th `Interrupted` is returned. A write that takes nothing is returned as `WriteZero`.
     ///
     /// Any other error is returned at once. After an `Err` some of the first bytes may have been taken in.
     #[inline(always)]
@@ -327,7 +326,6 @@ impl<W: TellWrite, P: WriterPolicy> Write for BufWriter<W, P> {
         ensures beginning { TookBeginning bytes.now self.old self.new }
         ensures steadily { (P.rules.claims self.old.policy).steady ≡ true
             → IfErr result (WriterStopped self.old.log.writes self.new.log.writes) }
-        ensures retried { IfErr result (λ e. error_kind e ≢ ErrorKind.Interrupted) }
         ensures whole { IsBlock self.new.block }
         ensures steps { WritesAll W.log W.trace P.rules self.old bytes.now result self.new }
         ensures trace { InnerWent W.log W.trace self.old self.new }

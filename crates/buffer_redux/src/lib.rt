@@ -21,6 +21,6 @@ pub use line_writer::{LineSender, LineWriter};
 pub use redux_buffer::{
     Attempt, BufImpl, Buffer, Count, DEFAULT_BUF_SIZE, GrowError, INTERRUPT_LIMIT, MAX_CAPACITY,
     MAX_RING, RING_UNIT, RawBuf, SliceDequeBuf, StdBuf, add_total, copy_buf, copy_turn, retried,
-    tell,
+    retried_behind, tell,
 };
 pub use unbuffer::Unbuffer;

@@ -1,9 +1,8 @@
 //! A buffered writer that flushes lines.
-ghost use Rattle.std.specs.Prelude.{◌≡◌, ◌≢◌, ◌++◌, ◌<◌, ◌≤◌, ◌^◌, [], length, Ok, Err, IfErr, true, OnOk, OnErr, IsOk, IfNone, IfOk, IfSome, MatchResult, MatchOption};
+ghost use Rattle.std.specs.Prelude.{◌≡◌, ◌++◌, ◌<◌, ◌≤◌, ◌^◌, [], length, Ok, Err, IfErr, true, OnOk, OnErr, IsOk, IfNone, IfOk, IfSome, MatchResult, MatchOption};
 ghost use Rattle.std.specs.Borrow.{sem, Lends};
 ghost use Rattle.std.specs.Io.{WritesAtMost};
 ghost use Rattle.std.specs.Io.KnownBytes.{Appends, Keeps, WriteAppends};
-ghost use Rattle.std.specs.IoError.{error_kind};
 ghost use Rattle.redux_buffer.specs.Block.{Plain, Ring, IsBlock, Reserves, capacity_for, round, usable};
 ghost use Rattle.redux_buffer.specs.GrowError.{FitsWithin};
 ghost use Rattle.redux_buffer.specs.StreamLog.{portion};
@@ -266,7 +265,6 @@ impl<W: TellWrite> Write for LineWriter<W> {
         ensures beginning { TookBeginning bytes.now self.old self.new }
         ensures steadily { (line_rules.claims self.old.policy).steady ≡ true
             → IfErr result (WriterStopped self.old.log.writes self.new.log.writes) }
-        ensures retried { IfErr result (λ e. error_kind e ≢ ErrorKind.Interrupted) }
         ensures whole { IsBlock self.new.block }
         ensures steps { WritesAll W.log W.trace line_rules self.old bytes.now result self.new }
         ensures trace { InnerWent W.log W.trace self.old self.new }

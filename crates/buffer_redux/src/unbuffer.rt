@@ -1,18 +1,18 @@
 //! A reader that gives its buffer up.
-ghost use Rattle.std.specs.Prelude.{◌≡◌, ◌≢◌, ◌==◌, ℕ, ◌<◌, ◌≤◌, length, min, take, drop, Ok, OnOk, IfErr, []};
+ghost use Rattle.std.specs.Prelude.{◌≡◌, ◌==◌, ℕ, ◌<◌, ◌≤◌, length, min, take, drop, Ok, OnOk, []};
 ghost use Rattle.std.specs.Io.{ReadsAtMost};
 ghost use Rattle.std.specs.Io.KnownBytes.{Consumes, ReadConsumes};
-ghost use Rattle.std.specs.IoError.{error_kind};
 ghost use Rattle.redux_buffer.specs.LogGrows.{ReadLogGrows};
 ghost use Rattle.redux_buffer.specs.StreamLog.{portion, after_read};
 ghost use Rattle.buffer_redux.specs.ReadAll.{FillsSlice};
 ghost use Rattle.buffer_redux.specs.Unbuffer.{unbuffered, unbuffer_remaining, UnbufferHands, HandsOutInOrder, UnbufferReads};
+ghost use Rattle.buffer_redux.specs.UnbufferLaws.{UnbufferHands-joins, UnbufferReads-tells};
 
-use crate::all_bytes::progress;
+use crate::all_bytes::{FillSlice, fill_on};
 use crate::buf_reader::BufReader;
 use redux_buffer::Buffer;
 use redux_buffer::tell::{Tell, TellRead};
-use std::io::{ErrorKind, Read};
+use std::io::Read;
 use std::marker::Model;
 use std::{fmt, io};
 
@@ -127,7 +127,7 @@ impl<R: TellRead> Read for Unbuffer<R> {
     }
 
     /// Reads until the slice is full, as [`BufReader`]'s does: bytes that are left come first. A read that hands out nothing is
-    /// returned as `UnexpectedEof`, and `TimedOut` comes after 2^64 - 1 reads.
+    /// returned as `UnexpectedEof`.
     ///
     /// After an `Err` the bytes that were handed out stand at the front of the slice.
     fn read_exact(&mut self, out: &mut [u8]) -> io::Result<()>
@@ -136,22 +136,31 @@ impl<R: TellRead> Read for Unbuffer<R> {
             × HandsOutInOrder self.old (take count out.new) self.new }
         ensures bytes { OnOk result (Consumes (unbuffer_remaining R.remaining self.old)
             (unbuffer_remaining R.remaining self.new) out.new) }
-        ensures retried { IfErr result (λ e. error_kind e ≢ ErrorKind.Interrupted) }
         ensures steps { FillsSlice (UnbufferReads R.remaining) (UnbufferHands R.remaining)
             self.old out.old result out.new self.new }
     {
-        let mut at = 0;
-        for _ in 0..u64::MAX {
-            if at >= out.len() {
-                return Ok(());
-            }
-            at += progress(self.read(&mut out[at..]), ErrorKind::UnexpectedEof)?;
-        }
-        if at >= out.len() {
+        if out.is_empty() {
             return Ok(());
         }
-        Err(io::Error::from(ErrorKind::TimedOut))
+        let answer = self.read(out);
+        fill_on(answer, self, out)
     }
+}
+
+impl<R: TellRead> FillSlice for Unbuffer<R> {
+    ghost reads = { UnbufferReads R.remaining };
+
+    ghost handed = { UnbufferHands R.remaining };
+
+    fn read_once(&mut self, out: &mut [u8]) -> io::Result<usize>
+        ensures read { UnbufferReads R.remaining self.old out.old result out.new self.new }
+    {
+        self.read(out)
+    }
+
+    ghost tells = { UnbufferReads-tells R.remaining };
+
+    ghost joins = { UnbufferHands-joins R.remaining };
 }
 
 impl<R: Tell + fmt::Debug> fmt::Debug for Unbuffer<R> {

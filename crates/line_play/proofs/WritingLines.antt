@@ -66,7 +66,7 @@ module _ {S P : Type 0} (tells : S → StreamLog) (trace : S → S → Type 0)
     length a + count,
     omega (arith, within, length-append a b),
     subst (λ l. Took trace s l t) (sym (take-append-add a b count)) (took_both s m t a (take count b) p took),
-    WriterStopped-after _ _ _ e p.grows why,
+    WriterStopped-after s.log.writes m.log.writes t.log.writes e p.grows why,
   )
 
   began_more : (s t : Buffered S P) (a b : List ℕ) (e : Error) → Began s a (Err e) t → Began s (a ++ b) (Err e) t
@@ -142,7 +142,7 @@ module _ {S P : Type 0} (tells : S → StreamLog) (trace : S → S → Type 0)
             part = record { count = last.0; within = last.1; in_order = last.2.in_order };
           };
           calls = each;
-          caused = WriterStopped-after _ _ _ e.error before.grows last.3;
+          caused = WriterStopped-after s.log.writes each.before.log.writes t.log.writes e.error before.grows last.3;
           not_flushed = all.not_flushed;
           capacity = all.capacity;
           trace = all.went;

@@ -10,7 +10,7 @@ pub use copy::{add_total, copy_buf, copy_turn};
 pub use count::Count;
 pub use grow_error::GrowError;
 pub use raw_buf::RawBuf;
-pub use retry::{Attempt, retried};
+pub use retry::{Attempt, retried, retried_behind};
 pub use slice_deque_buf::SliceDequeBuf;
 pub use std_buf::StdBuf;
 

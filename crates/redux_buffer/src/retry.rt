@@ -40,6 +40,22 @@ pub fn retried<S, A: Attempt<S>>(call: &A, state: &mut S) -> io::Result<A::Answe
     }
 }
 
+/// Goes on as [`retried`] does, behind a first call that answered this.
+#[inline(always)]
+pub fn retried_behind<S, A: Attempt<S>>(
+    first: io::Result<A::Answer>,
+    call: &A,
+    state: &mut S,
+) -> io::Result<A::Answer>
+    requires may { A.may call.now state.old }
+    ensures retried { (s : S) → A.step call.now s first state.old → Retried (A.step call.now) s result state.new }
+{
+    match first {
+        Ok(answer) => Ok(answer),
+        Err(fault) => retry_apart(fault, call, state),
+    }
+}
+
 // Goes on after a first call that failed so. It stands apart, and what it answers is cleared in here, which is inlined, and so
 // where it is called alone.
 #[inline(always)]

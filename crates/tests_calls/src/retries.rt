@@ -1,7 +1,7 @@
 //! Calls that are made again where they were interrupted.
 ghost use Rattle.std.specs.Prelude.{⊤};
 
-use redux_buffer::{Attempt, retried};
+use redux_buffer::{Attempt, retried, retried_behind};
 use redux_script::{Answer, ScriptReader};
 use std::alloc::Global;
 use std::io;
@@ -38,16 +38,33 @@ static ROWS: [(&[Answer], Result<usize, ErrorKind>, usize); 4] = [
     ),
 ];
 
-fn attempts(alloc: Global, script: &[Answer]) -> Result<(Result<usize, ErrorKind>, usize), Fail> {
+// By a first call too, behind which it goes on.
+fn attempts(
+    alloc: Global,
+    script: &[Answer],
+    is_behind: bool,
+) -> Result<(Result<usize, ErrorKind>, usize), Fail> {
     let mut stream = ScriptReader::new(alloc, &[7], script)?;
-    let came = kind(retried(&OneByte, &mut stream));
+    let came = if is_behind {
+        let first = OneByte.attempt(&mut stream);
+        kind(retried_behind(first, &OneByte, &mut stream))
+    } else {
+        kind(retried(&OneByte, &mut stream))
+    };
     Ok((came, stream.offers().len()))
 }
 
 #[test]
 fn interrupted(rt: HostRuntime) -> Result<(), Fail> {
     for &(script, answer, calls) in &ROWS {
-        assert!(rt; attempts(rt.alloc(), script)? == (answer, calls), "{calls}");
+        assert!(rt;
+            attempts(rt.alloc(), script, false)? == (answer, calls),
+            "{calls}"
+        );
+        assert!(rt;
+            attempts(rt.alloc(), script, true)? == (answer, calls),
+            "{calls}"
+        );
     }
     Ok(())
 }

@@ -6,16 +6,17 @@ ghost use Rattle.redux_buffer.specs.Block.{IsBlock, usable};
 ghost use Rattle.buffer_redux.specs.Buffered.{Buffered};
 ghost use Rattle.buffer_redux.specs.BufReader.{InnerGives, RanDry, ReaderConsumes, ReaderKeeps, ReadsInOrder};
 ghost use Rattle.buffer_redux.specs.Fill.{Filled};
-ghost use Rattle.buffer_redux.specs.ReadAll.{OneRead, ReadsExactly};
+ghost use Rattle.buffer_redux.specs.ReadAll.{HandedFront, OneRead, ReadsExactly};
+ghost use Rattle.buffer_redux.specs.ReadAllLaws.{HandedFront-joins, OneRead-tells};
 ghost use Rattle.buffer_redux.specs.ReadInside.{AskedRead, FillDone, HandOut, ReadsInside};
 ghost use Rattle.buffer_redux.specs.Policy.{read_now};
 
-use crate::all_bytes::progress;
+use crate::all_bytes::{FillSlice, fill_on};
 use crate::buf_reader::BufReader;
 use crate::policy::ReaderPolicy;
 use redux_buffer::tell::TellRead;
 use std::io;
-use std::io::{ErrorKind, Read};
+use std::io::Read;
 
 impl<R: TellRead, P: ReaderPolicy> BufReader<R, P> {
     // Inlined, so that a call that finds its bytes buffered makes no answer of `fill`.
@@ -96,27 +97,15 @@ impl<R: TellRead, P: ReaderPolicy> BufReader<R, P> {
         self.read_slowly(out)
     }
 
-    // Goes on after the first read of a read of a whole slice, which returned `answer`: reads what is left, where that read
-    // was short or interrupted.
+    // Goes on after the first read of a read of a whole slice, which returned `answer`.
     #[cold]
     #[inline(never)]
     fn read_on(&mut self, answer: io::Result<usize>, out: &mut [u8]) -> io::Result<()>
-        requires bound { ReadsAtMost answer out.old }
         requires some { 0 < length out.old }
         ensures exact { (s : Buffered R P) (was : List ℕ) → OneRead R.remaining P.rules s was answer out.old self.old
             → ReadsExactly R.remaining P.rules s was result out.new self.new }
     {
-        let mut at = progress(answer, ErrorKind::UnexpectedEof)?;
-        for _ in 1..u64::MAX {
-            if at >= out.len() {
-                return Ok(());
-            }
-            at += progress(self.read(&mut out[at..]), ErrorKind::UnexpectedEof)?;
-        }
-        if at >= out.len() {
-            return Ok(());
-        }
-        Err(io::Error::from(ErrorKind::TimedOut))
+        fill_on(answer, self, out)
     }
 
     // A read of a whole slice where fewer bytes are buffered, or the slice is empty.
@@ -174,4 +163,22 @@ impl<R: TellRead, P: ReaderPolicy> BufReader<R, P> {
     {
         self.read_on(Err(e), out)
     }
+}
+
+impl<R: TellRead, P: ReaderPolicy> FillSlice for BufReader<R, P> {
+    ghost reads = { OneRead R.remaining P.rules };
+
+    ghost handed = { HandedFront R.remaining P.rules };
+
+    #[inline(always)]
+    fn read_once(&mut self, out: &mut [u8]) -> io::Result<usize>
+        ensures read { OneRead R.remaining P.rules self.old out.old result out.new self.new }
+    {
+        let _ = &self.buf;
+        self.read(out)
+    }
+
+    ghost tells = { OneRead-tells R.remaining P.rules };
+
+    ghost joins = { HandedFront-joins R.remaining P.rules };
 }

@@ -1,15 +1,16 @@
 //! The parts of a write behind the first question of the policy, and further writes of what is left.
-ghost use Rattle.std.specs.Prelude.{◌<◌, Err, length};
+ghost use Rattle.std.specs.Prelude.{◌<◌, Err, length, ⊤};
 ghost use Rattle.std.specs.Io.{WritesAtMost};
 ghost use Rattle.redux_buffer.specs.Block.{IsBlock};
 ghost use Rattle.buffer_redux.specs.Buffered.{Buffered, InnerWent};
 ghost use Rattle.buffer_redux.specs.BufWriter.{Writes};
-ghost use Rattle.buffer_redux.specs.WriteAll.{AskedFirst, WritesAll};
+ghost use Rattle.buffer_redux.specs.WriteAll.{AskedFirst, OneWrite, WritesAll};
 
 use crate::all_bytes::progress;
 use crate::buf_writer::BufWriter;
 use crate::policy::{FlushAmt, WriterPolicy};
 use redux_buffer::tell::TellWrite;
+use redux_buffer::{Attempt, retried, retried_behind};
 use std::io;
 use std::io::{ErrorKind, Write};
 
@@ -86,28 +87,24 @@ impl<W: TellWrite, P: WriterPolicy> BufWriter<W, P> {
         }
     }
 
-    // Goes on after the first write of a write of all bytes, which returned `answer`: writes what is left, where that write
-    // was short or interrupted.
+    // Goes on after the first write of a write of all bytes, which returned `answer`: makes it again where it was interrupted,
+    // and writes what is left where it was short.
     #[cold]
     #[inline(never)]
     fn write_on(&mut self, answer: io::Result<usize>, bytes: &[u8]) -> io::Result<()>
-        requires bound { WritesAtMost answer bytes.now }
         requires some { 0 < length bytes.now }
-        ensures all { (s : Buffered W P) → Writes P.rules s bytes.now answer self.old
-            → IsBlock s.block × IsBlock self.old.block → InnerWent W.log W.trace s self.old
+        ensures all { (s : Buffered W P) → OneWrite W.log W.trace P.rules bytes.now s answer self.old
             → WritesAll W.log W.trace P.rules s bytes.now result self.new }
     {
-        let mut at = progress(answer, ErrorKind::WriteZero)?;
-        for _ in 1..u64::MAX {
-            if at >= bytes.len() {
-                return Ok(());
-            }
-            at += progress(self.write(&bytes[at..]), ErrorKind::WriteZero)?;
+        let first = retried_behind(answer, &Rest { bytes }, self);
+        let mut at = progress(first, ErrorKind::WriteZero)?;
+        while at < bytes.len() {
+            let rest = Rest {
+                bytes: &bytes[at..],
+            };
+            at += progress(retried(&rest, self), ErrorKind::WriteZero)?;
         }
-        if at >= bytes.len() {
-            return Ok(());
-        }
-        Err(io::Error::from(ErrorKind::TimedOut))
+        Ok(())
     }
 
     // All of a write of all bytes but the first question. It stands apart, as `write_cold` does.
@@ -155,10 +152,33 @@ impl<W: TellWrite, P: WriterPolicy> BufWriter<W, P> {
     #[inline(always)]
     pub(super) fn write_on_apart(&mut self, e: io::Error, bytes: &[u8]) -> io::Result<()>
         requires some { 0 < length bytes.now }
-        ensures all { (s : Buffered W P) → Writes P.rules s bytes.now (Err e) self.old
-            → IsBlock s.block × IsBlock self.old.block → InnerWent W.log W.trace s self.old
+        ensures all { (s : Buffered W P) → OneWrite W.log W.trace P.rules bytes.now s (Err e) self.old
             → WritesAll W.log W.trace P.rules s bytes.now result self.new }
     {
         self.write_on(Err(e), bytes)
     }
+}
+
+// A write of what is left.
+#[derive(Clone, Copy)]
+struct Rest<'a> {
+    bytes: &'a [u8],
+}
+
+impl<W: TellWrite, P: WriterPolicy> Attempt<BufWriter<W, P>> for Rest<'_> {
+    type Answer = usize;
+
+    ghost may = { λ _ _. ⊤ };
+
+    ghost step = { λ rest. OneWrite W.log W.trace P.rules rest.bytes.now };
+
+    #[inline(always)]
+    fn attempt(&self, writer: &mut BufWriter<W, P>) -> io::Result<usize>
+        ensures step { OneWrite W.log W.trace P.rules self.now.bytes.now writer.old result writer.new }
+    {
+        let _ = &writer.buf;
+        writer.write(self.bytes)
+    }
+
+    ghost again = { λ _ _ _ _ _ _. tt };
 }

@@ -1,5 +1,5 @@
 -- No bytes are no write, bytes that fit are one, and other bytes are a first write that more of them join.
-use Rattle.std.proofs.Common.{◌≡◌, ◌<◌, [], length, refl, arith, inl, sym, ◌∙◌}
+use Rattle.std.proofs.Common.{◌≡◌, ◌<◌, [], length, refl, arith, inl, sym, ◌∙◌, le_refl}
 use Rattle.std.proofs.lemmas.List.{nil_from_length}
 use Rattle.redux_buffer.specs.Block.{usable}
 use Rattle.buffer_redux.specs.Buffered.{over_buffer, with_calls}
@@ -34,6 +34,7 @@ returns-else-usable_space-bytes g c =
       steps = (all_at_once _ _ g.met.W.TellWrite.trace_none g.met.W.TellWrite.trace_joins rules
           c.args.self.now bytes (length bytes) c.flush_after.new.self some refl
           (rw (← c.self.view_is) (record {
+            bound = le_refl _;
             steps = writes_in rules _ before c.flush_after.new.self bytes c.append_by.new.buf c.in-Ok.field-0 c.in-Ok.ensures
                 whole refl (omega (arith, c.if-first-gt0.false, c.in-Ok.first-is)) roomy c.append_by.ensures.bytes
                 c.flush_after.ensures.finished;
@@ -51,9 +52,11 @@ returns-else-usable_space-bytes g c =
 pub returns-in-Err : goal.returns-in-Err
 returns-in-Err g c =
     record {
-      steps = (c.write_on_apart.ensures.all c.args.self.now
-          (rw (← c.self.view_is) (inl (record { asked = c.in-Err.ensures; told = refl })))
-          (rw (← c.self.view_is) (c.self.invariant, c.in-Err.ensures.law.whole c.self.invariant))
-          (rw (← c.self.view_is) (record
-          { calls = g.met.W.TellWrite.trace_none c.self.inside.inner; told_before = refl; told_after = refl; noted = refl })));
+      steps = c.write_on_apart.ensures.all c.args.self.now (rw (← c.self.view_is) (record {
+        bound = tt;
+        steps = inl (record { asked = c.in-Err.ensures; told = refl });
+        whole = (c.self.invariant, c.in-Err.ensures.law.whole c.self.invariant);
+        went = record
+            { calls = g.met.W.TellWrite.trace_none c.self.inside.inner; told_before = refl; told_after = refl; noted = refl };
+      }));
     }

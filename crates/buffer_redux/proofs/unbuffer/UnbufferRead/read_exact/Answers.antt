@@ -1,55 +1,37 @@
--- Turn by turn the slice's bytes before `at` were handed out, and each further read is one into what is left.
-use Rattle.std.proofs.Common.{Ok, Err, arith, rules, length, subst, le_refl}
-use Rattle.std.proofs.lemmas.Result.{err_from_is_err_and}
-use Rattle.std.proofs.lemmas.Slice.{between_to_end}
-use Rattle.buffer_redux.specs.Unbuffer.{UnbufferReads}
-use Rattle.buffer_redux.proofs.ReadAll.{turned_more, ended_failed, ended_by}
-use Rattle.buffer_redux.proofs.Unbuffering.{hands_joins, hands_tells, unbuffer_read}
+-- No bytes are no read; else reads that are made again, and go on, join the first one.
+use Rattle.std.proofs.Common.{◌≡◌, [], length, le_refl, sym, ◌∙◌}
+use Rattle.std.proofs.lemmas.List.{nil_from_length}
+use Rattle.buffer_redux.specs.ReadAll.{FillsSlice}
+use Rattle.buffer_redux.specs.Unbuffer.{UnbufferHands, UnbufferReads}
+use Rattle.buffer_redux.specs.UnbufferLaws.{UnbufferHands-joins, UnbufferHands-none, UnbufferReads-tells}
+use Rattle.buffer_redux.proofs.ReadAll.{ended_all, turned_none}
+use Rattle.buffer_redux.proofs.Testing.{zero_of}
+use Rattle.buffer_redux.proofs.Unbuffering.{all_out, unbuffer_read}
 use Rattle.buffer_redux.proofs.unbuffer.UnbufferRead.read_exact.Goals as goal
+use Rattle.buffer_redux.proofs.unbuffer.UnbufferRead.read_exact.Goals.{After-fill_on}
 
-pub returns-then-at-out-clause-steps : goal.returns-then-at-out-clause-steps
-returns-then-at-out-clause-steps g c = ended_by _ _ _ _ _ _ _ _ c.loop.invariant.turned (Ok tt) c.if-at-out.true
-
-pub returns-in_err-at-clause-steps : goal.returns-in_err-at-clause-steps
-returns-in_err-at-clause-steps g c =
-    let r = c.read.ensures in
-    let p = err_from_is_err_and c.from_residual.result c.from_residual.ensures.1 in
+pub returns-then-is_empty-clause-steps : goal.returns-then-is_empty-clause-steps
+returns-then-is_empty-clause-steps g c =
     let remaining = g.R.TellRead.remaining in
-    rw (p.1, p.2) (ended_failed _ _ (hands_joins remaining) (hands_tells remaining) c.args.self.now c.args.out.now
-    c.loop.counter c.loop.at c.loop.out c.loop.self c.loop.invariant.turned c.read.new.out c.read.result c.read.new.self
-    c.if-at-out.false
-    (subst (λ l. UnbufferReads remaining c.loop.self l c.read.result c.read.new.out c.read.new.self)
-    (between_to_end c.loop.out c.loop.at (length c.loop.out) (le_refl _))
-    (unbuffer_read remaining _ _ _ c.read.new.out _ c.read.auto.out r.bound r.bytes r.in_order r.grows r.left r.asked))
-    _ c.in_err-at.ensures)
+    let s = c.args.self.now in
+    let empty : c.args.out.now ≡ [] = nil_from_length c.args.out.now
+    (zero_of (length c.args.out.now) (sym c.is_empty.ensures ∙ c.if-is_empty.true)) in
+    rw empty (ended_all _ _ (UnbufferHands-joins remaining) (UnbufferReads-tells remaining) s [] 0 0 [] s
+    (turned_none _ _ s [] (UnbufferHands-none remaining s)) (le_refl 0))
 
-pub returns-in_err-at-clause-beginning : goal.returns-in_err-at-clause-beginning
-returns-in_err-at-clause-beginning g c =
-    let r = returns-in_err-at-clause-steps g c in
-    (r.count, r.within, r.front.order)
-
-pub loop-preserved : goal.loop-preserved
-loop-preserved g c =
-    let r = c.read.ensures in
+fills : (g : _) (c : After-fill_on g) → FillsSlice (UnbufferReads g.R.TellRead.remaining) (UnbufferHands g.R.TellRead.remaining)
+    c.args.self.now c.args.out.now c.fill_on.result c.fill_on.new.out c.fill_on.new.reader
+fills g c =
+    let r = c.read-answer.ensures in
     let remaining = g.R.TellRead.remaining in
-    record {
-      turned = turned_more _ _ (hands_joins remaining) (hands_tells remaining) c.args.self.now c.args.out.now c.loop.counter
-          c.loop.at c.loop.out c.loop.self c.loop.invariant.turned c.read.new.out c.read.result c.read.new.self
-          c.if-at-out.false
-          (subst (λ l. UnbufferReads remaining c.loop.self l c.read.result c.read.new.out c.read.new.self)
-          (between_to_end c.loop.out c.loop.at (length c.loop.out) (le_refl _))
-          (unbuffer_read remaining _ _ _ c.read.new.out _ c.read.auto.out r.bound r.bytes r.in_order r.grows r.left
-          r.asked))
-          c.in_ok-at.field-0 c.in_ok-at.ensures;
-    }
+    c.fill_on.ensures.fills c.args.self.now c.args.out.now (UnbufferHands-none remaining c.args.self.now)
+    (unbuffer_read remaining _ _ _ c.read-answer.new.out _ c.read-answer.auto.out r.bound r.bytes r.in_order r.grows r.left
+    r.asked)
 
-pub returns-then-at-out-2-clause-steps : goal.returns-then-at-out-2-clause-steps
-returns-then-at-out-2-clause-steps g c = ended_by _ _ _ _ _ _ _ _ c.loop.invariant.turned (Ok tt) c.if-at-out-2.true
+pub returns-clause-in_order : goal.returns-clause-in_order
+returns-clause-in_order g c =
+    (all_out _ _ _ _ _ _ (fills g (goal.at.returns-clause-in_order g c).After-fill_on)).0
 
-pub returns-clause-steps : goal.returns-clause-steps
-returns-clause-steps g c = ended_by _ _ _ _ _ _ _ _ c.loop.invariant.turned (Err _) (record {
-  some = omega (arith, c.if-at-out-2.false);
-  fits = search rules;
-  all = omega (arith, c.loop-test.false, c.loop.auto.counter-end);
-  timed_out = c.from.ensures;
-})
+pub returns-clause-bytes : goal.returns-clause-bytes
+returns-clause-bytes g c =
+    (all_out _ _ _ _ _ _ (fills g (goal.at.returns-clause-bytes g c).After-fill_on)).1
