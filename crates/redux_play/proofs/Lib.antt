@@ -4,4 +4,3 @@ pub mod PlayWriting
 pub mod CopyKnown
 pub mod FlushKnown
 pub mod Unwrapped
-pub mod NextByte

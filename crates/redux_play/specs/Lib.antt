@@ -1,4 +1,3 @@
-pub mod NextByte
 pub mod PlayRoom
 pub mod PlayReader
 pub mod PlayWriter

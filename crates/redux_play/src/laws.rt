@@ -6,7 +6,7 @@ mod sparing;
 mod unsent;
 mod writes;
 
-pub use ahead::{look_ahead, next_byte, peek};
+pub use ahead::look_ahead;
 pub use known::{copy_known, flush_known};
 pub use rebuilding::{rebuild_reader_under, rebuild_writer_under};
 pub use redux_buffer::laws::{block_law, copy_through, potential, ring_law};

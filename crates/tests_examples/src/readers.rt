@@ -1,7 +1,6 @@
 //! Readers, and what runs them.
 use buffer_redux::tell::Told;
 use buffer_redux::{BufReader, GrowError, MakeError, SeekPlan, seek_plan};
-use redux_play::laws::{next_byte, peek};
 use redux_play::play::{ReaderAnswer, ReaderCall, ReaderRun, play_reader};
 use std::io::{BufRead, Read, SeekFrom};
 use std::test::Fail;
@@ -46,16 +45,6 @@ fn plan(rt: HostRuntime) -> Result<(), Fail> {
     let plan = seek_plan(SeekFrom::Current(1), 4);
     assert!(rt; matches!(plan, SeekPlan::One(SeekFrom::Current(-3))));
     Ok(())
-}
-
-#[test]
-fn bytes(rt: HostRuntime) -> Result<(), Fail> {
-    let alloc = rt.alloc();
-    let mut reader = BufReader::new(alloc, Told::new(b"a".as_slice()))?;
-    assert!(rt; matches!(peek(&mut reader)?, Some(b'a')));
-    assert!(rt; matches!(next_byte(&mut reader)?, Some(b'a')));
-    assert!(rt; matches!(next_byte(&mut reader)?, None));
-    Ok(drop(reader))
 }
 
 #[test]

@@ -1,15 +1,12 @@
-//! What a reader shows under a minimum, and when it answers that nothing is left.
-ghost use Rattle.std.specs.Prelude.{◌≡◌, ◌<◌, [], length, take, Ok, None, IfOk, IfSome, OnOk, is_ok, slice_get};
+//! What a reader shows under a minimum.
+ghost use Rattle.std.specs.Prelude.{◌≡◌, ◌<◌, [], length, take, Ok, IfOk, IfSome, OnOk, is_ok};
 ghost use Rattle.std.specs.Io.KnownBytes.{Keeps};
 ghost use Rattle.buffer_redux.specs.MinBuffered.{min_read_rules};
-ghost use Rattle.buffer_redux.specs.BufReader.{Fills, FillsToMinimum, ReadErrorCaused, ReadsAlong, ReadsInOrder, ReadsToEnd};
-ghost use Rattle.buffer_redux.specs.ReaderLaws.{WantsBytes};
+ghost use Rattle.buffer_redux.specs.BufReader.{Fills, FillsToMinimum, ReadErrorCaused, ReadsInOrder};
 ghost use Rattle.buffer_redux.specs.Remaining.{reader_remaining};
-ghost use Rattle.redux_play.specs.NextByte.{TakesByte};
-ghost use Rattle.buffer_redux.specs.ReadByte.{handed_byte};
 
 use buffer_redux::BufReader;
-use buffer_redux::policy::{MinBuffered, ReaderPolicy};
+use buffer_redux::policy::MinBuffered;
 use redux_buffer::tell::TellRead;
 use std::io;
 use std::io::BufRead;
@@ -31,41 +28,4 @@ pub fn look_ahead<R: TellRead>(reader: &mut BufReader<R, MinBuffered>) -> io::Re
     ensures noted { reader.new.own_calls ≡ reader.old.own_calls }
 {
     Ok(reader.fill_buf()?.len())
-}
-
-/// The byte that stands next, which stays buffered, or `None` where a fill shows nothing. Under a policy that wants bytes, as
-/// `StdPolicy` and a minimum of 1 or more do, and with some capacity, that is the end.
-pub fn peek<R: TellRead, P: ReaderPolicy>(reader: &mut BufReader<R, P>) -> io::Result<Option<u8>>
-    ensures shown { IfOk result (λ found. found ≡ slice_get reader.new.block.bytes 0) }
-    ensures fills { Fills P.rules reader.old result reader.new }
-    ensures along { ReadsAlong R.remaining P.rules reader.old [] reader.new }
-    ensures end { result ≡ Ok None → WantsBytes (P.rules.claims reader.old.policy) → 0 < reader.old.block.capacity
-        → ReadsToEnd R.remaining P.rules reader.old [] reader.new }
-    ensures noted { reader.new.own_calls ≡ reader.old.own_calls }
-{
-    Ok(reader.fill_buf()?.first().copied())
-}
-
-/// Takes the byte that stands next, or answers `None` as [`peek`] does. An `Err` is that of the fill, and takes nothing.
-///
-/// ```
-/// let mut reader = BufReader::new(alloc, Told::new(b"a".as_slice()))?;
-/// assert!(rt; matches!(peek(&mut reader)?, Some(b'a')));
-/// assert!(rt; matches!(next_byte(&mut reader)?, Some(b'a')));
-/// assert!(rt; matches!(next_byte(&mut reader)?, None));
-/// ```
-pub fn next_byte<R: TellRead, P: ReaderPolicy>(
-    reader: &mut BufReader<R, P>,
-) -> io::Result<Option<u8>>
-    ensures takes { TakesByte P.rules reader.old result reader.new }
-    ensures along { ReadsAlong R.remaining P.rules reader.old (handed_byte result) reader.new }
-    ensures end { result ≡ Ok None → WantsBytes (P.rules.claims reader.old.policy) → 0 < reader.old.block.capacity
-        → ReadsToEnd R.remaining P.rules reader.old [] reader.new }
-    ensures noted { reader.new.own_calls ≡ reader.old.own_calls }
-{
-    let found = peek(reader)?;
-    if found.is_some() {
-        reader.consume(1);
-    }
-    Ok(found)
 }
