@@ -7,6 +7,7 @@ use Rattle.piece_reader.specs.declared.decoder.End.TheVariants as end
 use Rattle.piece_reader.specs.declared.decoder.Found.{Found}
 use Rattle.piece_reader.specs.declared.decoder.Found.TheVariants as found
 use Rattle.piece_reader.specs.Grammar.{Grammar}
+use Rattle.piece_reader.specs.Looking.{LookTells}
 
 -- the same pieces, with other words for why bytes are none
 abbrev pub renamed : {V W : Type 0} → (V → W) → Grammar V → Grammar W
@@ -23,6 +24,10 @@ abbrev pub found_as : {V W : Type 0} → (V → W) → Found V → Found W
 found_as f (found.Piece span used) = found.Piece span used
 found_as f (found.More n) = found.More n
 found_as f (found.Wrong e) = found.Wrong (f e)
+
+-- such an answer, in those words
+abbrev pub SaidAs : {V W : Type 0} → (V → W) → (Found V → Type 0) → Found W → Type 0
+SaidAs {V} f Such is = (said : Found V) × Such said × (is ≡ found_as f said)
 
 abbrev pub end_as : {V W : Type 0} → (V → W) → End V → End W
 end_as f (end.Last span) = end.Last span
@@ -49,11 +54,11 @@ either_notes byte Ones Others [] note = Ones [] note.0 × Others [] note.1
 either_notes byte Ones Others (first ∷ bytes) note =
     MatchBool (first == byte) (Ones (first ∷ bytes) note.0) (Others (first ∷ bytes) note.1)
 
--- how many bytes are asked for: the first alone, and then as many as the protocol of that says
-abbrev pub either_asks : ℕ → (List ℕ → ℕ → Type 0) → (List ℕ → ℕ → Type 0) → List ℕ → ℕ → Type 0
-either_asks byte Ones Others [] n = n ≡ 1
-either_asks byte Ones Others (first ∷ bytes) n =
-    MatchBool (first == byte) (Ones (first ∷ bytes) n) (Others (first ∷ bytes) n)
+-- of a look at bytes that the first one says are of either protocol: what its decoder told; of none the first byte is asked for
+abbrev pub either_looks : {V W : Type 0} → ℕ → LookTells V → LookTells W → LookTells (EitherWrong V W)
+either_looks byte Ones Others [] seen is = is ≡ found.More 1
+either_looks byte Ones Others (first ∷ bytes) seen is = MatchBool (first == byte)
+    (SaidAs (λ e. One e) (Ones (first ∷ bytes) seen) is) (SaidAs (λ e. Other e) (Others (first ∷ bytes) seen) is)
 
 -- two: the pieces of the one begin with this byte
 abbrev pub either : {V W : Type 0} → ℕ → Grammar V → Grammar W → Grammar (EitherWrong V W)

@@ -8,8 +8,9 @@ use Rattle.piece_reader.specs.declared.decoder.End.{End}
 use Rattle.piece_reader.specs.declared.decoder.End.TheVariants as end
 use Rattle.piece_reader.specs.declared.decoder.Found.{Found}
 use Rattle.piece_reader.specs.declared.decoder.Found.TheVariants as found
-use Rattle.piece_reader.specs.Decoding.{Decodes, DecodesAtEnd, OnMore, bytes_at}
-use Rattle.codec.specs.FirstByte.{OnFirst, by_first, either, either_asks, either_notes, end_as, found_as, renamed}
+use Rattle.piece_reader.specs.Decoding.{Decodes, DecodesAtEnd, bytes_at}
+use Rattle.piece_reader.specs.Looking.{LookTells}
+use Rattle.codec.specs.FirstByte.{OnFirst, SaidAs, by_first, either, either_looks, either_notes, end_as, found_as, renamed}
 use Rattle.piece_reader.specs.Grammar.{Grammar, IsLawful, IsOpen}
 use Rattle.piece_reader.specs.GrammarLaws.{open_as, open_none}
 use Rattle.piece_reader.specs.Items.{IsWhole}
@@ -180,19 +181,14 @@ module _ {N M : Type 0} (byte : ℕ) (Ones : List ℕ → N → Type 0) (Others 
   side_leaves b (first ∷ bytes) some is n =
       subst (λ x. MatchBool x (Ones (first ∷ bytes) note.0) (Others (first ∷ bytes) note.1)) (sym is) n
 
--- what they ask for, by that side
-pub side_asks : (byte : ℕ) (Ones Others : List ℕ → ℕ → Type 0) (n : ℕ) (b : Bool) (bytes : List ℕ) → 0 < length bytes
-    → (slice_index bytes 0 == byte) ≡ b → MatchBool b (Ones bytes n) (Others bytes n) → either_asks byte Ones Others bytes n
-side_asks byte Ones Others n b [] some is asks = absurd (omega (arith, some))
-side_asks byte Ones Others n b (first ∷ bytes) some is asks =
-    subst (λ x. MatchBool x (Ones (first ∷ bytes) n) (Others (first ∷ bytes) n)) (sym is) asks
-
--- a fact where an answer settles nothing, under other words
-pub more_as : {V W : Type 0} (f : V → W) (found : Found V) (P Q : ℕ → Type 0) → ((n : ℕ) → P n → Q n) → OnMore found P
-    → OnMore (found_as f found) Q
-more_as f (found.Piece span used) P Q then p = tt
-more_as f (found.More n) P Q then p = then n p
-more_as f (found.Wrong e) P Q then p = tt
+-- what a look tells, by that side
+pub looks_by_side : {V W : Type 0} (byte : ℕ) (Ones : LookTells V) (Others : LookTells W) (seen : ℕ)
+    (is : Found (EitherWrong V W)) (b : Bool) (bytes : List ℕ) → 0 < length bytes → (slice_index bytes 0 == byte) ≡ b
+    → MatchBool b (SaidAs (λ e. One e) (Ones bytes seen) is) (SaidAs (λ e. Other e) (Others bytes seen) is)
+    → either_looks byte Ones Others bytes seen is
+looks_by_side byte Ones Others seen is b [] some same said = absurd (omega (arith, some))
+looks_by_side byte Ones Others seen is b (first ∷ bytes) some same said = subst (λ x. MatchBool x
+    (SaidAs (λ e. One e) (Ones (first ∷ bytes) seen) is) (SaidAs (λ e. Other e) (Others (first ∷ bytes) seen) is)) (sym same) said
 
 module _ {V W : Type 0} (byte : ℕ) (g : Grammar V) (h : Grammar W) (one_law : IsLawful g) (other_law : IsLawful h) where
   laws : (first : ℕ) → IsLawful (one_or byte g h first)

@@ -49,7 +49,7 @@ pub struct ByFirst<A: Decoder, B: Decoder> {
 }
 
 impl<A: Decoder, B: Decoder> Decoder for ByFirst<A, B> {
-    ghost use Rattle.codec.specs.FirstByte.{either, either_asks, either_notes};
+    ghost use Rattle.codec.specs.FirstByte.{either, either_looks, either_notes};
     ghost use Rattle.codec.specs.FirstByteLaws.{either_lawful};
 
     type Wrong = EitherWrong<A::Wrong, B::Wrong>;
@@ -60,7 +60,7 @@ impl<A: Decoder, B: Decoder> Decoder for ByFirst<A, B> {
 
     ghost notes = { λ d. either_notes d.byte (A.notes d.one) (B.notes d.other) };
 
-    ghost asks = { λ d. either_asks d.byte (A.asks d.one) (B.asks d.other) };
+    ghost looks = { λ d. either_looks d.byte (A.looks d.one) (B.looks d.other) };
 
     fn most(&self) -> usize {
         self.one.most().max(self.other.most())

@@ -34,6 +34,7 @@ pub struct Ended<D: Decoder>(pub D);
 
 impl<D: Decoder> Decoder for Ended<D> {
     ghost use Rattle.codec.specs.Ended.{ended};
+    ghost use Rattle.codec.specs.FirstByte.{SaidAs};
     ghost use Rattle.codec.specs.EndedLaws.{ended_lawful};
 
     type Wrong = Unended<D::Wrong>;
@@ -44,7 +45,7 @@ impl<D: Decoder> Decoder for Ended<D> {
 
     ghost notes = { λ d. D.notes d.0 };
 
-    ghost asks = { λ d. D.asks d.0 };
+    ghost looks = { λ d bytes seen. SaidAs (λ e. unended.Wrong e) (D.looks d.0 bytes seen) };
 
     fn most(&self) -> usize {
         self.0.most()

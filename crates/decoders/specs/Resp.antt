@@ -1,11 +1,13 @@
 -- The pieces of RESP.
 use Rattle.std.specs.Prelude.{ℕ, List, [], ◌∷◌, drop, Bool, ◌&&◌, ◌||◌, ◌==◌, slice_index, if◌then◌else◌, Option, None, Some}
 use Rattle.std.specs.Option.{option_map_or}
+use Rattle.codec.specs.Decoding.{OnMore}
 use Rattle.codec.specs.Delimited.{delimited}
 use Rattle.codec.specs.Ended.{ended}
-use Rattle.codec.specs.FirstByte.{either, either_asks, either_notes}
+use Rattle.codec.specs.FirstByte.{SaidAs, either, either_looks, either_notes}
 use Rattle.codec.specs.Grammar.{Grammar}
 use Rattle.codec.specs.HeaderFormat.{AsksWhole, length_prefixed}
+use Rattle.codec.specs.Looking.{LookTells}
 use Rattle.codec.specs.Number.{with_byte}
 use Rattle.codec.specs.Scanning.{scan_notes, scanned}
 use Rattle.codec.specs.Showing.{showing}
@@ -13,6 +15,7 @@ use Rattle.codec.specs.Trimming.{trimming}
 use Rattle.codec.specs.declared.by_first.EitherWrong.{EitherWrong}
 use Rattle.codec.specs.declared.TooLong.{TooLong}
 use Rattle.codec.specs.declared.ended.Unended.{Unended}
+use Rattle.codec.specs.declared.ended.Unended.TheVariants as unended
 use Rattle.codec.specs.declared.HeaderError.{HeaderError}
 use Rattle.codec.specs.declared.number.Number.{Number}
 use Rattle.codec.specs.declared.scan.ScanNote.{ScanNote}
@@ -39,9 +42,10 @@ resp max = either 36 (length_prefixed (scanned (nullable max))) (ended (resp_lin
 abbrev pub resp_notes : ℕ → List ℕ → ScanNote StringState × Unit {0} → Type 0
 resp_notes max = either_notes 36 (scan_notes (nullable max)) (λ bytes note. Unit {0})
 
--- of a bulk string whose header is there the whole is asked for
-abbrev pub resp_asks : ℕ → List ℕ → ℕ → Type 0
-resp_asks max = either_asks 36 (AsksWhole (scanned (nullable max))) (λ bytes n. Unit {0})
+-- what its looks tell: once the header of a string is there, that asks for the whole piece
+abbrev pub resp_looks : ℕ → LookTells (EitherWrong HeaderError (Unended TooLong))
+resp_looks max = either_looks 36 (λ bytes seen is. OnMore is (AsksWhole (scanned (nullable max)) bytes))
+    (λ bytes seen. SaidAs (λ e. unended.Wrong e) (λ said. Unit {0}))
 
 -- a line ends with this byte, which is LF, or CR with LF behind it
 abbrev pub ends_here : ℕ → List ℕ → Bool

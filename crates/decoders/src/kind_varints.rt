@@ -59,6 +59,7 @@ impl Scan for KindVarints {
 }
 
 impl Decoder for KindVarints {
+    ghost use Rattle.codec.specs.Decoding.{OnMore};
     ghost use Rattle.codec.specs.HeaderFormat.{AsksWhole};
     ghost use Rattle.codec.specs.Scanning.{scan_notes, scanned};
     ghost use Rattle.decoders.specs.Varints.{kind_varints, kind_pieces};
@@ -72,7 +73,7 @@ impl Decoder for KindVarints {
 
     ghost notes = { λ d. scan_notes (kind_varints d.max) };
 
-    ghost asks = { λ d. AsksWhole (scanned (kind_varints d.max)) };
+    ghost looks = { λ d bytes _ found. OnMore found (AsksWhole (scanned (kind_varints d.max)) bytes) };
 
     fn most(&self) -> usize {
         ByHeader(ByScan(*self)).most()

@@ -58,7 +58,7 @@ pub enum RespItem {
 }
 
 impl Decoder for Resp {
-    ghost use Rattle.decoders.specs.Resp.{resp, resp_asks, resp_notes};
+    ghost use Rattle.decoders.specs.Resp.{resp, resp_looks, resp_notes};
     ghost use Rattle.decoders.specs.RespLaws.{resp_lawful};
 
     type Wrong = EitherWrong<HeaderError, Unended<TooLong>>;
@@ -69,7 +69,7 @@ impl Decoder for Resp {
 
     ghost notes = { λ d. resp_notes d.max };
 
-    ghost asks = { λ d. resp_asks d.max };
+    ghost looks = { λ d. resp_looks d.max };
 
     fn most(&self) -> usize {
         let max = self.max;

@@ -35,7 +35,7 @@ impl Decoder for Frames {
 
     ghost grammar = { λ d. framed d.max };
 
-    ghost asks = { λ _. AsksFrame };
+    ghost looks = { λ _ bytes _ found. OnMore found (AsksFrame bytes) };
 
     fn most(&self) -> usize {
         HEADER + usize::from(self.max)
@@ -46,7 +46,7 @@ impl Decoder for Frames {
     #[inline(always)]
     fn decode(&self, bytes: &[u8], _seen: usize, _note: &mut ()) -> Found<FrameFault>
         ensures finds { Decodes (framed self.now.max) bytes.now result }
-        ensures asks { OnMore result (AsksFrame bytes.now) }
+        ensures looks { OnMore result (AsksFrame bytes.now) }
     {
         if bytes.len() < HEADER {
             return Found::More(HEADER);

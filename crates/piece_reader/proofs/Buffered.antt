@@ -1,9 +1,11 @@
 -- What is handed out of what is buffered alone.
 use Rattle.std.proofs.Common.{◌≡◌, ◌≤◌, ℕ, List, length, ap, refl, subst, sym, ◌∙◌, arith, le_refl}
+use Rattle.piece_reader.specs.declared.decoder.Found.{Found}
 use Rattle.piece_reader.specs.declared.decoder.Span.{Span}
 use Rattle.piece_reader.specs.Decoding.{IsPiece}
 use Rattle.piece_reader.specs.Grammar.{Begins, Grammar, IsLawful, IsOpen}
 use Rattle.piece_reader.specs.GrammarLaws.{begins_of, open_of}
+use Rattle.piece_reader.specs.Looking.{LooksAtRest, LookTells}
 use Rattle.piece_reader.specs.NextPiece.{StaysLeft}
 use Rattle.piece_reader.specs.NextPieceLaws.{seen_inside}
 use Rattle.piece_reader.specs.PieceReader.{ReaderState, IsPieceReader, rest}
@@ -40,3 +42,9 @@ pub found_begins : {S D W : Type 0} (grammar : D → Grammar W) (s : ReaderState
 found_begins grammar s d same bytes is span used found =
     let here = subst (λ x. IsPiece (grammar x) bytes span used) same found in
     subst (Begins (grammar s.decoder)) is (begins_of (grammar s.decoder) bytes span used here)
+
+-- a look at what is left is one, as the parts of a reader show it
+pub looked_rest : {S D W : Type 0} (looks : D → LookTells W) {f s : ReaderState S D} {bytes : List ℕ} (found : Found W) → f ≡ s
+    → bytes ≡ rest s → looks f.decoder bytes f.seen found → LooksAtRest looks s
+looked_rest looks {f} {s} {bytes} found same left look =
+    (found, subst (λ x. looks x.decoder (rest s) x.seen found) same (subst (λ l. looks f.decoder l f.seen found) left look))

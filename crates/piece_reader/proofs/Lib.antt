@@ -4,6 +4,7 @@ pub mod Handover
 pub mod Headers
 pub mod Lending
 pub mod Loading
+pub mod Looking
 pub mod Reading
 pub mod Refilling
 pub mod Saying

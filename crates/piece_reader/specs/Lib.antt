@@ -9,6 +9,7 @@ pub mod Items
 pub mod KnownPayloads
 pub mod KnownPieces
 pub mod KnownPiecesLaws
+pub mod Looking
 pub mod NextPiece
 pub mod NextPieceLaws
 pub mod PieceReader

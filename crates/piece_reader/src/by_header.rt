@@ -24,7 +24,7 @@ impl<H: LengthPrefixed> Decoder for ByHeader<H> {
 
     ghost notes = { λ d. H.notes d.0 };
 
-    ghost asks = { λ d. AsksWhole (H.header_format d.0) };
+    ghost looks = { λ d bytes _ found. OnMore found (AsksWhole (H.header_format d.0) bytes) };
 
     fn most(&self) -> usize {
         self.0.most_header() + self.0.max() + self.0.tail().len()
@@ -41,7 +41,7 @@ impl<H: LengthPrefixed> Decoder for ByHeader<H> {
         requires noted { H.notes self.now.0 (take seen bytes.now) note.old }
         ensures finds { Decodes (length_prefixed (H.header_format self.now.0)) bytes.now result }
         ensures leaves { OnMore result (λ _. H.notes self.now.0 bytes.now note.new) }
-        ensures asks { OnMore result (AsksWhole (H.header_format self.now.0) bytes.now) }
+        ensures looks { OnMore result (AsksWhole (H.header_format self.now.0) bytes.now) }
     {
         match self.0.header(bytes, seen, note) {
             Header::Short => Found::More(1 + bytes.len()),

@@ -34,6 +34,8 @@ pub enum End<W> {
 ///
 /// A look that settles nothing may leave a note for the next one, so that no byte is looked at twice. Who needs none takes `()`.
 pub trait Decoder: Drop {
+    ghost use Rattle.piece_reader.specs.declared.decoder.Found.{Found};
+
     /// Why bytes are no piece.
     type Wrong: Copy;
 
@@ -47,8 +49,9 @@ pub trait Decoder: Drop {
     // What a look over these bytes leaves.
     ghost notes: { Self → List ℕ → Self.Note → Type 0 } = { λ _ _ _. Unit {0} };
 
-    // How many bytes are asked for where these settle nothing. Who knows no more than that says nothing here.
-    ghost asks: { Self → List ℕ → ℕ → Type 0 } = { λ _ _ _. Unit {0} };
+    // What a look at these bytes, the first so many of which were looked at before, tells by its answer beside what that means,
+    // as how many bytes it asks for. Who knows no more says nothing here: a reader shows by it which looks it made.
+    ghost looks: { Self → List ℕ → ℕ → Found Self.Wrong → Type 0 } = { λ _ _ _ _. Unit {0} };
 
     /// No piece takes more bytes.
     fn most(&self) -> usize
@@ -65,7 +68,7 @@ pub trait Decoder: Drop {
         requires noted { notes self.now (take seen bytes.now) note.old }
         ensures finds { Decodes (grammar self.now) bytes.now result }
         ensures leaves { OnMore result (λ _. notes self.now bytes.now note.new) }
-        ensures asks { OnMore result (asks self.now bytes.now) };
+        ensures looks { looks self.now bytes.now seen result };
 
     /// Looks at what settles nothing and has nothing behind it.
     fn at_end(&self, bytes: &[u8]) -> End<Self::Wrong>

@@ -10,6 +10,7 @@ ghost use Rattle.piece_reader.specs.contracts.reader.PieceReader.{the_row};
 ghost use Rattle.piece_reader.specs.declared.error.NextError.TheVariants.{Wrong};
 ghost use Rattle.piece_reader.specs.Decoding.{IsLent, bytes_at};
 ghost use Rattle.piece_reader.specs.Grammar.{IsOpenBelow};
+ghost use Rattle.piece_reader.specs.Looking.{LooksFromLast, LooksAtRest, LooksForMore};
 ghost use Rattle.piece_reader.specs.PieceReader.{IsOver, IsPieceReader, IsFresh, Skips, TakenApart, left_of, rest, room_for};
 ghost use Rattle.piece_reader.specs.NextPiece.{NextBuffered, NextPiece, buffered_answer, load_answer};
 
@@ -300,7 +301,8 @@ impl<R: TellRead, D: Decoder> PieceReader<R, D> {
     /// The stream is read only where what is buffered settles nothing, and each end of it is told once: by the call after the
     /// one that handed out a last piece, which reads nothing then. A call after a `None` asks the stream again.
     ///
-    /// An `Err` says why there is no piece, and leaves what came of it: the next call goes on from there.
+    /// An `Err` says why there is no piece, and leaves what came of it: the next call goes on from there. So it is called again
+    /// after an interrupted read, which is an `Io` too.
     #[inline(always)]
     pub fn step(&mut self) -> Result<Option<Span>, NextError<D::Wrong>>
         ensures lends { IfOk result (λ found. IfSome found
@@ -310,6 +312,7 @@ impl<R: TellRead, D: Decoder> PieceReader<R, D> {
         ensures wrong { (e : D.Wrong) → (D.grammar self.old.decoder).wrong (rest self.old) e
             → load_answer result self.new ≡ Err (NextError.Wrong e) }
         ensures ended { self.old.ended ≡ true → load_answer result self.new ≡ Ok None }
+        ensures looked { LooksFromLast D.looks self.old self.new }
         ensures next { NextPiece R.remaining (D.grammar self.old.decoder) self.old (load_answer result self.new) self.new }
     {
         let at = self.handed;
@@ -324,10 +327,12 @@ impl<R: TellRead, D: Decoder> PieceReader<R, D> {
     }
 
     /// Goes on to the next piece as [`step`](PieceReader::step) does where it stands whole in the buffer, and asks the stream for
-    /// nothing. `None` where it doesn't: `step` says then why, or asks for more. What was looked at isn't looked at again.
+    /// nothing. `None` where it doesn't: `step` says then why, or asks for more. The look begins where
+    /// the last one ended.
     #[inline(always)]
     pub fn step_buffered(&mut self) -> Option<Span>
         ensures lends { IfSome result (IsLent (D.grammar self.new.decoder) self.new.handed self.new.reader.block.bytes) }
+        ensures looked { LooksAtRest D.looks self.old }
         ensures next { NextBuffered R.remaining (D.grammar self.old.decoder) self.old
             (buffered_answer result self.new) self.new }
     {
@@ -355,6 +360,7 @@ impl<R: TellRead, D: Decoder> PieceReader<R, D> {
             (IsLent (D.grammar self.new.decoder) self.new.handed self.new.reader.block.bytes)) }
         ensures front { IfOk result (λ found. IfSome found (λ _.
             HandsOutInOrder (left_of self.old) (take self.new.handed self.new.reader.block.bytes) (left_of self.new))) }
+        ensures looked { LooksForMore D.looks self.old need self.new }
         ensures next { NextPiece R.remaining (D.grammar self.old.decoder) self.old (load_answer result self.new) self.new }
     {
         self.drop_handed();

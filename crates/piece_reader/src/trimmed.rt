@@ -21,6 +21,10 @@ use crate::decoder::{Decoder, End, Found, Span};
 pub struct Trimmed<D: Decoder>(pub D);
 
 impl<D: Decoder> Decoder for Trimmed<D> {
+    ghost use Rattle.std.specs.Prelude.{◌≡◌};
+    ghost use Rattle.piece_reader.specs.declared.decoder.Found.{Found};
+    ghost use Rattle.piece_reader.specs.declared.decoder.Found.TheVariants.{More};
+    ghost use Rattle.piece_reader.specs.Decoding.{OnMore};
     ghost use Rattle.piece_reader.specs.Trimming.{trimming};
     ghost use Rattle.piece_reader.specs.TrimmingLaws.{trimming_lawful};
 
@@ -32,7 +36,8 @@ impl<D: Decoder> Decoder for Trimmed<D> {
 
     ghost notes = { λ d. D.notes d.0 };
 
-    ghost asks = { λ d. D.asks d.0 };
+    ghost looks = { λ d bytes seen found. (whole : Found D.Wrong) × D.looks d.0 bytes seen whole
+        × OnMore found (λ n. whole ≡ More n) };
 
     fn most(&self) -> usize {
         self.0.most()

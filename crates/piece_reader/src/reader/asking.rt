@@ -1,6 +1,7 @@
 //! Whether the stream is asked next, and one ask of it.
 ghost use Rattle.std.specs.Prelude.{◌≡◌, ◌<◌, ◌↔◌, [], length, Ok, IsTrue, true, false};
 ghost use Rattle.piece_reader.specs.Grammar.{Begins};
+ghost use Rattle.piece_reader.specs.Looking.{LooksAtRest};
 ghost use Rattle.piece_reader.specs.NextPiece.{Refills};
 ghost use Rattle.piece_reader.specs.PieceReader.{IsSettled, rest};
 
@@ -10,9 +11,11 @@ use buffer_redux::tell::{Tell, TellRead};
 use std::io;
 
 impl<R: Tell, D: Decoder> PieceReader<R, D> {
-    /// Whether a whole piece is buffered: then the next [`step`](PieceReader::step) hands it out, and reads nothing.
+    /// Whether a whole piece is buffered: then the next [`step`](PieceReader::step) hands it out, and reads nothing. It
+    /// changes nothing, so what it looks at is looked at again.
     pub fn has_piece(&self) -> bool
         ensures none { rest self.now ≡ [] → result ≡ false }
+        ensures looked { LooksAtRest D.looks self.now }
         ensures buffered { IsTrue result ↔ Begins (D.grammar self.now.decoder) (rest self.now) }
     {
         let mut note = self.note;
@@ -23,9 +26,10 @@ impl<R: Tell, D: Decoder> PieceReader<R, D> {
     }
 
     /// Whether the next [`step`](PieceReader::step) answers without the stream: a whole piece is buffered, or the beginning of
-    /// none, or the stream ended, which no call has told yet.
+    /// none, or the stream ended, which no call has told yet. It changes nothing, so what it looks at is looked at again.
     pub fn is_settled(&self) -> bool
         ensures none { rest self.now ≡ [] → result ≡ self.now.ended }
+        ensures looked { self.now.ended ≡ false → LooksAtRest D.looks self.now }
         ensures settled { IsTrue result ↔ IsSettled (D.grammar self.now.decoder) self.now }
     {
         if self.ended {

@@ -2,7 +2,7 @@
 use Rattle.std.proofs.Common.{◌<◌, rules, false, length, subst, sym, true, ◌∙◌}
 use Rattle.piece_reader.specs.Decoding.{Decodes}
 use Rattle.codec.specs.FirstByte.{either}
-use Rattle.codec.specs.FirstByteLaws.{renamed_decodes, renamed_open, side_decodes, side_open}
+use Rattle.codec.specs.FirstByteLaws.{renamed_decodes, renamed_open, side_decodes, looks_by_side, side_open}
 use Rattle.codec.specs.declared.by_first.EitherWrong.TheVariants.{One, Other}
 use Rattle.codec.proofs.by_first.ByFirstDecoder.decode.Goals as goal
 
@@ -46,3 +46,18 @@ returns-else-begins_with-clause-finds g c =
     some (sym c.begins_with.ensures ∙ c.if-begins_with.false) _
     (renamed_decodes (λ e. Other e) other c.args.bytes.now c.decode-else-begins_with.result
     c.decode-else-begins_with.ensures.finds))
+
+pub returns-then-begins_with-clause-looks : goal.returns-then-begins_with-clause-looks
+returns-then-begins_with-clause-looks g c =
+    let s = c.args.self.now in
+    let some : 0 < length c.args.bytes.now = search rules in
+    looks_by_side s.byte (g.A.Decoder.looks s.one) (g.B.Decoder.looks s.other) c.args.seen _ true c.args.bytes.now some
+    (sym c.begins_with.ensures ∙ c.if-begins_with.true) (c.decode.result, c.decode.ensures.looks, c.as_one.ensures)
+
+pub returns-else-begins_with-clause-looks : goal.returns-else-begins_with-clause-looks
+returns-else-begins_with-clause-looks g c =
+    let s = c.args.self.now in
+    let some : 0 < length c.args.bytes.now = search rules in
+    looks_by_side s.byte (g.A.Decoder.looks s.one) (g.B.Decoder.looks s.other) c.args.seen _ false c.args.bytes.now some
+    (sym c.begins_with.ensures ∙ c.if-begins_with.false)
+    (c.decode-else-begins_with.result, c.decode-else-begins_with.ensures.looks, c.as_other.ensures)

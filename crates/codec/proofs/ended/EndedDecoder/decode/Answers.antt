@@ -14,3 +14,6 @@ returns-clause-finds g c =
     let gram = g.D.Decoder.grammar c.args.self.now.0 in
     subst (Decodes (ended gram) c.args.bytes.now) (sym c.as_ended.ensures)
     (ended_decodes gram c.args.bytes.now c.decode.result c.decode.ensures.finds)
+
+pub returns-clause-looks : goal.returns-clause-looks
+returns-clause-looks g c = (c.decode.result, c.decode.ensures.looks, c.as_ended.ensures)

@@ -1,7 +1,7 @@
 -- Where a piece was found what is left begins with it, and no bytes begin with a piece.
 use Rattle.std.proofs.Common.{ap, refl}
 use Rattle.piece_reader.specs.GrammarLaws.{begins_none}
-use Rattle.piece_reader.proofs.Buffered.{found_begins}
+use Rattle.piece_reader.proofs.Buffered.{found_begins, looked_rest}
 use Rattle.piece_reader.proofs.reader.PieceReader.has_piece.Goals as goal
 
 pub returns-in-Piece : goal.returns-in-Piece
@@ -11,5 +11,6 @@ returns-in-Piece g c =
     c.in-Piece.ensures.finds in
     record {
       none = λ none. absurd (begins_none (g.D.Decoder.grammar s.decoder) (g.met.D.Decoder.lawful s.decoder) begins none);
+      looked = looked_rest g.D.Decoder.looks _ c.self.view_is c.rest.ensures.value c.in-Piece.ensures.looks;
       buffered = (λ _. begins, λ _. refl);
     }

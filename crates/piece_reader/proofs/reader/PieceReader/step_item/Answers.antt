@@ -1,11 +1,13 @@
 -- Calls hand out one list of bytes, so those at the buffer's front are the piece, and say its item.
-use Rattle.std.proofs.Common.{◌-◌, Err, None, Ok, Some, ap, drop, subst, take, ◌∙◌}
+use Rattle.std.proofs.Common.{◌-◌, Err, None, Ok, Some, ap, drop, length, subst, take, ◌∙◌}
 use Rattle.buffer_redux.specs.Unbuffer.{HandsOutInOrder}
 use Rattle.buffer_redux.specs.UnbufferLaws.{HandsOutInOrder-same}
+use Rattle.piece_reader.specs.declared.decoder.Found.TheVariants.{More}
 use Rattle.piece_reader.specs.NextPiece.{NextPiece, load_answer}
-use Rattle.piece_reader.specs.PieceReader.{left_of}
+use Rattle.piece_reader.specs.PieceReader.{left_of, rest}
 use Rattle.piece_reader.proofs.Lending.{lends_piece}
 use Rattle.piece_reader.proofs.Loading.{next_looked}
+use Rattle.piece_reader.proofs.Looking.{looked_before}
 use Rattle.piece_reader.proofs.Saying.{loaded_front, loaded_next, part_front, says_piece, whole_front, whole_piece, wrong_now}
 use Rattle.piece_reader.proofs.reader.PieceReader.step_item.Goals as goal
 
@@ -93,3 +95,33 @@ returns-in-Wrong-clause-next g c =
           c.in-Wrong.e c.in-Wrong.ensures.takes.0 c.in-Wrong.ensures.takes.1 c.take.ensures.before;
       says = tt;
     }
+
+pub returns-in-Ok-Some-clause-looked : goal.returns-in-Ok-Some-clause-looked
+returns-in-Ok-Some-clause-looked g c =
+    let wants = c.in-More.ensures in
+    let s = c.args.self.now in (
+      More c.in-More.need,
+      wants.looks,
+      looked_before g.D.Decoder.looks s c.take.new.self c.load_apart.new.self c.in-More.need (length (rest s)) wants.takes.3
+          c.load_apart.ensures.looked,
+    )
+
+pub returns-in-Ok-None-clause-looked : goal.returns-in-Ok-None-clause-looked
+returns-in-Ok-None-clause-looked g c =
+    let wants = c.in-More.ensures in
+    let s = c.args.self.now in (
+      More c.in-More.need,
+      wants.looks,
+      looked_before g.D.Decoder.looks s c.take.new.self c.load_apart.new.self c.in-More.need (length (rest s)) wants.takes.3
+          c.load_apart.ensures.looked,
+    )
+
+pub returns-in-Err-clause-looked : goal.returns-in-Err-clause-looked
+returns-in-Err-clause-looked g c =
+    let wants = c.in-More.ensures in
+    let s = c.args.self.now in (
+      More c.in-More.need,
+      wants.looks,
+      looked_before g.D.Decoder.looks s c.take.new.self c.load_apart.new.self c.in-More.need (length (rest s)) wants.takes.3
+          c.load_apart.ensures.looked,
+    )
