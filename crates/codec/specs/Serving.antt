@@ -49,18 +49,6 @@ Converses {A} item_of Answers a (x ∷ earlier) more b =
     (between : A) × Converses item_of Answers a earlier true between
     × Answers between (item_of x.bytes) x.payload x.reply more b
 
--- the first of these exchanges, of which the latest is first, is such
-pub record FirstIs (Such : Exchange → Type 0) (exchanges : List Exchange) : Type 0 where
-  pub later : List Exchange
-  pub first : Exchange
-  pub all : exchanges ≡ later ++ first ∷ []
-  pub such : Such first
-
--- there are no exchanges, or the first is such; or there is just one, so a lone one, behind which no piece is taken
-abbrev pub Opens : (Exchange → Type 0) → (Exchange → Type 0) → List Exchange → Bool → Type 0
-Opens Such Lone exchanges more = (exchanges ≡ []) ⊎ FirstIs Such exchanges
-    ⊎ ((x : Exchange) × (exchanges ≡ x ∷ []) × Lone x × (more ≡ false))
-
 -- its bytes are a piece with its payload, or a last one
 abbrev pub IsWholeExchange : {W : Type 0} → Grammar W → Exchange → Type 0
 IsWholeExchange g x = g.piece x.bytes x.payload ⊎ g.last x.bytes x.payload

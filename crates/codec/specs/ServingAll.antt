@@ -8,7 +8,7 @@ use Rattle.buffer_redux.specs.Policy.{std_write_rules}
 use Rattle.buffer_redux.specs.Retried.{InterruptedSteps, Step}
 use Rattle.buffer_redux.specs.StreamLog.{StreamLog}
 use Rattle.piece_reader.specs.Grammar.{Grammar}
-use Rattle.codec.specs.Serving.{Exchange, Exchanged, FailedBy, Server, Serves, ServingFails, joined_parts}
+use Rattle.codec.specs.Serving.{Exchange, Exchanged, Server, Serves, ServingFails, joined_parts}
 use Rattle.codec.specs.declared.serving.ServeError.{ServeError}
 use Rattle.codec.specs.declared.serving.ServeError.TheVariants.{Read}
 use Rattle.codec.specs.declared.serving.Served.{Served}
@@ -55,12 +55,3 @@ module _ {S D W I A T P : Type 0} (remaining : S → Option (List ℕ)) (tells :
       pub resumes : Resumes count s between
       pub last : (ServingFails remaining tells trace g item_of Answers Fails between e t × NotInterrupted e)
           ⊎ ((between ≡ t) × (2 ^ 64 ≤ count + 1) × IsTimeout e)
-
-    -- the exchanges of all calls, and what failed behind them: serving did, behind the latest of these; or it gave up
-    pub record FailsBehind (s : Server S D A T P) (e : ServeError W F) (t : Server S D A T P) : Type 0 where
-      pub exchanges : List Exchange
-      pub more : Bool
-      pub last : Server S D A T P
-      pub exchanged : Exchanged remaining tells trace g item_of Answers s exchanges more last
-      pub fails : ((latest earlier : List Exchange) × (exchanges ≡ latest ++ earlier)
-          × FailedBy remaining tells trace g item_of Answers Fails e latest more last t) ⊎ ((last ≡ t) × IsTimeout e)

@@ -1,5 +1,5 @@
 -- How what a server did over several calls joins, and what holds along a conversation.
-use Rattle.std.specs.Prelude.{◌≡◌, ℕ, ◌⊎◌, List, [], ◌∷◌, ◌++◌, length, Bool, true, false, Option, Ok}
+use Rattle.std.specs.Prelude.{◌≡◌, ℕ, List, [], ◌∷◌, ◌++◌, length, Bool, true, Option, Ok}
 use Rattle.std.specs.declared.io.Error.{Error}
 use Rattle.std.proofs.lemmas.List.Elements.{All-append, All-nil}
 use Rattle.std.proofs.Common.{ap, append-nil, append_assoc, inl, inr, refl, subst, sym, ◌∙◌, arith, length-append}
@@ -10,9 +10,7 @@ use Rattle.buffer_redux.specs.WritesAlongLaws.{FlushedAlong-all, WasFlushed-alon
 use Rattle.piece_reader.specs.Grammar.{Grammar}
 use Rattle.piece_reader.specs.NextPiece.{PiecesWent}
 use Rattle.piece_reader.specs.PiecesWentLaws.{PiecesWent-joins, PiecesWent-none}
-use Rattle.codec.specs.Serving.{Converses, Exchange, Exchanged, IsWholeExchange, Opens, Server, ServingFails, joined_parts}
-use Rattle.codec.specs.ServingAll.{FailsBehind, StopsAll}
-use Rattle.codec.specs.declared.serving.ServeError.{ServeError}
+use Rattle.codec.specs.Serving.{Converses, Exchange, Exchanged, IsWholeExchange, Server, ServingFails, joined_parts}
 use Rattle.codec.specs.declared.serving.ServeError.TheVariants.{Read}
 
 pub joined_parts-joins : (part : Exchange → List ℕ) (earlier later : List Exchange)
@@ -39,58 +37,6 @@ module _ {A I : Type 0} (item_of : List ℕ → I) (Answers : A → I → List �
   Converses-keeps Holds keeps a b [] more (same, is) h = subst Holds same h
   Converses-keeps Holds keeps a b (x ∷ earlier) more (between, talked, says) h =
       keeps between x more b says (Converses-keeps Holds keeps a between earlier true talked h)
-
-  -- the first of these exchanges, of which the latest is first, and what it made
-  pub record FirstMade (a : A) (exchanges : List Exchange) (more : Bool) : Type 0 where
-    pub later : List Exchange
-    pub first : Exchange
-    pub all : exchanges ≡ later ++ first ∷ []
-    pub further : Bool
-    pub made : A
-    pub answers : Answers a (item_of first.bytes) first.payload first.reply further made
-    pub ends : ((later ≡ []) × (further ≡ more)) ⊎ (further ≡ true)
-
-  pub Converses-begins : (a b : A) (x : Exchange) (earlier : List Exchange) (more : Bool)
-      → Converses item_of Answers a (x ∷ earlier) more b → FirstMade a (x ∷ earlier) more
-  Converses-begins a b x [] more (between, (same, is), says) = record {
-    later = [];
-    first = x;
-    all = refl;
-    further = more;
-    made = b;
-    answers = subst (λ m. Answers m (item_of x.bytes) x.payload x.reply more b) (sym same) says;
-    ends = inl (refl, refl);
-  }
-  Converses-begins a b x (y ∷ earlier) more (between, talked, says) =
-      let f = Converses-begins a between y earlier true talked in record {
-        later = x ∷ f.later;
-        first = f.first;
-        all = ap (λ l. x ∷ l) f.all;
-        further = f.further;
-        made = f.made;
-        answers = f.answers;
-        ends = inr (elim f.ends [ inl one ↦ one.1 | inr more ↦ more ]);
-      }
-
-  -- where every answer of a state is such, or a lone one that closes, so is all that begins there
-  pub Converses-opens : (Such Lone : Exchange → Type 0) (a b : A) (exchanges : List Exchange) (more : Bool)
-      → ((x : Exchange) (further : Bool) (made : A) → Answers a (item_of x.bytes) x.payload x.reply further made
-      → Such x ⊎ (Lone x × (further ≡ false)))
-      → Converses item_of Answers a exchanges more b → Opens Such Lone exchanges more
-  Converses-opens Such Lone a b [] more says talked = inl refl
-  Converses-opens Such Lone a b (x ∷ earlier) more says talked =
-      let f = Converses-begins a b x earlier more talked in elim (says f.first f.further f.made f.answers) [
-        | inl such ↦ inr (inl (record { later = f.later; first = f.first; all = f.all; such = such }))
-        | inr (lone, closes) ↦ inr (inr (elim f.ends [
-          | inl (none, is) ↦ (
-            f.first,
-            subst (λ later. x ∷ earlier ≡ later ++ f.first ∷ []) none f.all,
-            lone,
-            sym is ∙ closes,
-          )
-          | inr goes ↦ absurd (let odd : true ≡ false = sym goes ∙ closes in cc)
-        ]))
-      ]
 
 module _ {S D W I A T P : Type 0} (remaining : S → Option (List ℕ)) (tells : T → StreamLog) (trace : T → T → Type 0)
     (g : Grammar W) (item_of : List ℕ → I) (Answers : A → I → List ℕ → List ℕ → Bool → A → Type 0) where
@@ -154,27 +100,3 @@ module _ {S D W I A T P : Type 0} (remaining : S → Option (List ℕ)) (tells :
         FlushedAlong-all tells trace std_write_rules joins s.answers t.answers (joined_parts (λ x. x.reply) f.exchanges) along
             flushed.ok.empty flushed.ok.flushed,
       )
-
-  -- of a failure behind several calls: all exchanges, and what failed behind them
-  pub StopsAll-behind : {F : Type 0} (Fails : A → I → List ℕ → F → A → Type 0)
-      → ((u v w : T) → trace u v → trace v w → trace u w) → (s : Server S D A T P) (e : ServeError W F) (t : Server S D A T P)
-      → StopsAll remaining tells trace g item_of Answers Fails s e t
-      → FailsBehind remaining tells trace g item_of Answers Fails s e t
-  StopsAll-behind Fails joins s e t f = elim f.last [
-    | inl (stops, other) ↦ record {
-      exchanges = stops.exchanges ++ f.resumes.exchanges;
-      more = stops.more;
-      last = stops.last;
-      exchanged = Exchanged-joins joins s f.between stops.last f.resumes.exchanges stops.exchanges stops.more
-          f.resumes.exchanged stops.exchanged;
-      fails = inl (stops.exchanges, f.resumes.exchanges, refl, stops.fails);
-    }
-    | inr (same, many, gave_up) ↦ record {
-      exchanges = f.resumes.exchanges;
-      more = true;
-      last = t;
-      exchanged = subst (λ m. Exchanged remaining tells trace g item_of Answers s f.resumes.exchanges true m) same
-          f.resumes.exchanged;
-      fails = inr (refl, gave_up);
-    }
-  ]

@@ -1,5 +1,5 @@
 -- Laws of a server's turns.
-use Rattle.std.specs.Prelude.{◌≡◌, ℕ, ◌⊎◌, List, [], ◌∷◌, ◌++◌, Bool, true, Option, Some, Ok, Err}
+use Rattle.std.specs.Prelude.{◌≡◌, ℕ, ◌⊎◌, List, [], ◌∷◌, Bool, true, Option, Ok, Err}
 use Rattle.std.specs.declared.io.Error.{Error}
 use Rattle.std.proofs.lemmas.List.Elements.{All-cons, All-nil}
 use Rattle.std.proofs.Common.{ap, append-nil, inl, inr, refl, subst, sym}
@@ -8,16 +8,14 @@ use Rattle.buffer_redux.specs.BufWriter.{WasFlushed, WritesAlong}
 use Rattle.buffer_redux.specs.Policy.{std_write_rules}
 use Rattle.buffer_redux.specs.StreamLog.{StreamLog}
 use Rattle.buffer_redux.specs.WritesAlongLaws.{FlushedAlong-of, WasFlushed-along, WritesAlong-joins, WritesAlong-none, WritesAlong-then}
-use Rattle.piece_reader.specs.declared.error.NextError.TheVariants as next
 use Rattle.codec.specs.AnsweringLaws.{WritesOnce-along}
 use Rattle.codec.specs.ServingAllLaws.{Exchanged-joins, Exchanged-none}
 use Rattle.codec.specs.Fetching.{FlushedFirst}
 use Rattle.piece_reader.specs.Grammar.{Grammar}
-use Rattle.piece_reader.specs.NextPiece.{NextAnswer, PiecesWent}
+use Rattle.piece_reader.specs.NextPiece.{PiecesWent}
 use Rattle.piece_reader.specs.PiecesWentLaws.{PiecesWent-joins, PiecesWent-none}
 use Rattle.piece_reader.specs.PieceReader.{ReaderState}
-use Rattle.piece_reader.specs.StaysLeftLaws.{StaysLeft-went}
-use Rattle.codec.specs.Serving.{Converses, EndedBy, Exchange, Exchanged, FailedBy, Fetched, IsWholeExchange, Server, Serves, ServesTurn, ServingEnds, ServingFails, Talked, joined_parts, server}
+use Rattle.codec.specs.Serving.{Converses, EndedBy, Exchange, Exchanged, FailedBy, IsWholeExchange, Server, Serves, ServesTurn, ServingEnds, ServingFails, Talked, joined_parts, server}
 use Rattle.codec.specs.declared.serving.ServeError.{ServeError}
 use Rattle.codec.specs.declared.serving.ServeError.TheVariants.{Failed, Flush, Read, Write, Wrong}
 use Rattle.codec.specs.declared.serving.Served.{Served}
@@ -132,54 +130,6 @@ module _ {S D W I A T P : Type 0} (remaining : S → Option (List ℕ)) (tells :
           fails = fails;
           exchanged = Talked-exchanged exchanges more m talked;
         }
-
-        -- what failed took a piece that wasn't answered, or nothing; and nothing was written
-        abbrev TookLast : Server S D A T P → Server S D A T P → Type 0
-        TookLast m t = (unanswered : List ℕ) × PiecesWent remaining g.most m.pieces unanswered t.pieces
-            × WritesAlong tells trace std_write_rules m.answers [] t.answers
-
-        -- whatever failed, of all that was taken at most the last piece wasn't answered, and just the answers were written
-        pub ServingFails-went : (e : ServeError W F) (t : Server S D A T P)
-            (f : ServingFails remaining tells trace g item_of Answers Fails s e t) → (unanswered : List ℕ)
-            × PiecesWent remaining g.most s.pieces (joined_parts (λ x. x.bytes) f.exchanges ++ unanswered) t.pieces
-            × WritesAlong tells trace std_write_rules s.answers (joined_parts (λ x. x.reply) f.exchanges) t.answers
-        ServingFails-went e t f =
-            let last = behind e f.exchanges f.more f.last t f.fails in (
-              last.0,
-              PiecesWent-joins remaining g.most s.pieces f.last.pieces t.pieces (joined_parts (λ x. x.bytes) f.exchanges) last.0
-                  f.exchanged.taken last.1,
-              WritesAlong-then tells trace std_write_rules joins s.answers f.last.answers t.answers
-                  (joined_parts (λ x. x.reply) f.exchanges) f.exchanged.along last.2,
-            )
-          where
-            unanswered : (answer : NextAnswer W) (m t : Server S D A T P)
-                → Fetched remaining tells trace g item_of Answers m answer t.answers t.pieces → TookLast m t
-            unanswered answer m t fetched =
-                (fetched.next.bytes, fetched.next.went, first_along m.pieces m.answers t.pieces t.answers fetched.first)
-
-            behind : (e : ServeError W F) (exchanges : List Exchange) (more : Bool) (m t : Server S D A T P)
-                → FailedBy remaining tells trace g item_of Answers Fails e exchanges more m t → TookLast m t
-            behind (Read e) exchanges more m t (is, took) = unanswered (Err (next.Io e)) m t took.fetched
-            behind (Wrong e) exchanges more m t (is, took) = unanswered (Err (next.Wrong e)) m t took.fetched
-            behind (Write e) exchanges more m t (is, inl failed) = (
-              [],
-              StaysLeft-went remaining g m.pieces t.pieces failed.first.2,
-              WasFlushed-along tells trace std_write_rules m.answers (Err e) t.answers failed.first.1,
-            )
-            behind (Write e) exchanges more m t (is, inr (x, failed)) = (
-              failed.fetched.next.bytes,
-              failed.fetched.next.went,
-              WritesAlong-then tells trace std_write_rules joins m.answers failed.ready t.answers []
-                  (first_along m.pieces m.answers t.pieces failed.ready failed.fetched.first) failed.written.along,
-            )
-            behind (Failed why) exchanges more m t (is, failed) = unanswered (Ok (Some failed.payload)) m t failed.fetched
-            behind (Flush ended e) exchanges more m t (n, by, pieces, service, flushed) =
-                let so = ends_so ended exchanges more m n by in (
-                  [],
-                  subst (λ p. PiecesWent remaining g.most m.pieces [] p) (sym pieces) so.0,
-                  WritesAlong-then tells trace std_write_rules joins m.answers n.answers t.answers [] so.2
-                      (WasFlushed-along tells trace std_write_rules n.answers (Err e) t.answers flushed),
-                )
 
         -- up to an end, behind which the flush failed
         pub ServingEnds-failed : (by : Served) (t : Server S D A T P)

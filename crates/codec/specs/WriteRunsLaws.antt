@@ -1,27 +1,19 @@
 -- Laws of runs of calls that write payloads: they go on by one call, and what their calls take in joins.
-use Rattle.std.specs.Prelude.{◌≡◌, ℕ, List, [], ◌∷◌, ◌++◌, length, map, take, Result, Ok, Err}
-use Rattle.std.proofs.Common.{sym, ap, subst, refl, ◌∙◌}
-use Rattle.std.proofs.Math.Seq.{take-append_seam}
+use Rattle.std.specs.Prelude.{◌≡◌, ℕ, List, [], ◌∷◌, ◌++◌, map, Result, Ok, Err}
+use Rattle.std.proofs.Common.{sym, ap, subst, refl}
 use Rattle.codec.specs.declared.error.WritePieceError.{WritePieceError}
 use Rattle.codec.specs.declared.error.WritePieceError.TheVariants.{Refused, Io}
-use Rattle.codec.specs.declared.laws.runs.WriteEachError.{WriteEachError}
 use Rattle.codec.specs.Encoding.{Encoding, IsWritable}
 use Rattle.codec.specs.PieceWriter.{WriterState}
 use Rattle.codec.specs.WritePiece.{PiecesTaken, WriteAnswer, WritesPiece, accepted}
 use Rattle.codec.specs.WritePieceLaws.{PiecesTaken-joins, PiecesTaken-none}
-use Rattle.codec.specs.WriteRuns.{CallPlays, CallRuns, CallsStopped, IsFault, WritePlays, all_accepted}
+use Rattle.codec.specs.WriteRuns.{CallPlays, CallRuns, IsFault, WritePlays, all_accepted}
 
 -- what is taken in where each answer is `Ok`, and that only payloads with an answer count
 pub all_accepted-ok : (X : Type 0) (payloads : List (List ℕ))
     → all_accepted {X = X} payloads (map (λ payload. Ok tt) payloads) ≡ payloads
 all_accepted-ok X [] = refl
 all_accepted-ok X (payload ∷ payloads) = ap (λ l. payload ∷ l) (all_accepted-ok X payloads)
-
--- what is taken in where the last answer is an error
-all_accepted-stopped : {X : Type 0} (done : List (List ℕ)) (payload : List ℕ) (why : X)
-    → all_accepted (done ++ payload ∷ []) (map (λ payload. Ok tt) done ++ Err why ∷ []) ≡ done
-all_accepted-stopped [] payload why = refl
-all_accepted-stopped (p ∷ done) payload why = ap (λ l. p ∷ l) (all_accepted-stopped done payload why)
 
 module _ {T X : Type 0} (Call : T → List ℕ → Result (Unit {0}) X → T → Type 0) where
   pub CallRuns-more : (s : T) (payloads : List (List ℕ)) (answers : List (Result (Unit {0}) X)) (m : T) (payload : List ℕ)
@@ -33,18 +25,10 @@ module _ {T X : Type 0} (Call : T → List ℕ → Result (Unit {0}) X → T →
   CallRuns-more s (p ∷ payloads) (a ∷ answers) m payload answer t run wrote =
       (run.0, run.1, CallRuns-more run.0 payloads answers m payload answer t run.2 wrote)
 
-  -- what calls took in that all answered `Ok`, and where the last was an error
+  -- what calls took in that all answered `Ok`
   pub CallPlays-ok : (Taken : T → List (List ℕ) → T → Type 0) (s : T) (payloads : List (List ℕ)) (t : T)
       → CallPlays Call Taken s payloads (map (λ payload. Ok tt) payloads) t → Taken s payloads t
   CallPlays-ok Taken s payloads t plays = subst (λ l. Taken s l t) (all_accepted-ok X payloads) plays.taken
-
-  pub CallsStopped-taken : (Taken : T → List (List ℕ) → T → Type 0) (s : T) (payloads : List (List ℕ))
-      (why : WriteEachError X) (t : T) (stopped : CallsStopped Call (CallPlays Call Taken) s payloads why t)
-      → Taken s (take why.taken payloads) t
-  CallsStopped-taken Taken s payloads why t stopped =
-      let front : take why.taken payloads ≡ stopped.done = ap (λ n. take n payloads) stopped.taken
-      ∙ ap (λ l. take (length stopped.done) l) stopped.all ∙ take-append_seam stopped.done (stopped.payload ∷ stopped.later) in
-      subst (λ l. Taken s l t) (all_accepted-stopped stopped.done stopped.payload why.error ∙ sym front) stopped.plays.taken
 
   module _ (Taken : T → List (List ℕ) → T → Type 0) (none : (s : T) → Taken s [] s)
       (joins : (s m t : T) (ps qs : List (List ℕ)) → Taken s ps m → Taken m qs t → Taken s (ps ++ qs) t)
