@@ -188,7 +188,7 @@ impl<R: TellRead> FrameReader<R> {
     /// the last frame. The stream is read only where no whole frame is buffered.
     ///
     /// An `Err` says why there is no frame, and leaves what came of it: the next call goes on from there. So a `TooLong` is
-    /// returned each time.
+    /// returned each time, and after an interrupted read, which is an `Io` too, this is called again.
     #[inline(always)]
     pub fn next(&mut self) -> Result<Option<&[u8]>, FrameError>
         ensures fits { IfOk result (λ found. IfSome found (λ payload. length payload.now ≤ self.old.decoder.max)) }

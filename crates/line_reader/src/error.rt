@@ -2,7 +2,7 @@
 use std::error::Error;
 use std::{fmt, io};
 
-/// Why there is no next line. What came of it stays buffered, and the next call goes on from there.
+/// Why there is no next line. What came of it stays buffered, unless it is being skipped, and the next call goes on from there.
 ///
 /// ```
 /// let mut reader = LineReader::new(alloc, Told::new(b"too long\nok\n".as_slice()), 4)?;

@@ -246,7 +246,8 @@ impl<R: TellRead> LineReader<R> {
     /// that lent a last line without an end, which reads nothing then. A call after a `None` asks the stream again.
     ///
     /// An `Err` says why there is no line, and leaves what came of it: the next call goes on from there. So a `TooLong` is
-    /// returned each time, until [`skip_line`](LineReader::skip_line) drops the line.
+    /// returned each time, until [`skip_line`](LineReader::skip_line) drops the line; and after an interrupted read, which is an
+    /// `Io` too, this is called again.
     ///
     /// A line that `skip_line` failed in is dropped first, through its end, however often the stream fails in it: so what is
     /// lent begins where a line begins.

@@ -93,7 +93,7 @@ pub fn play_write<P: PayloadWriter>(
 /// Why a payload of a list was not taken in.
 #[derive(Debug, Drop)]
 pub struct WriteEachError<E> {
-    /// How many payloads were taken in. Who goes on begins with the one behind these.
+    /// How many payloads were taken in. Who goes on begins with the one behind these, unless the writer may take a part of one.
     pub taken: usize,
     /// The error of its call.
     pub error: E,
