@@ -1,5 +1,5 @@
 -- How many bytes wait in the writer's buffer while the reader is asked.
-use Rattle.std.proofs.Common.{◌≡◌, ◌∙◌, ℕ, zero, suc, ◌+◌, ◌<◌, ◌≤◌, inl, inr, List, [], length, Option, Result, Ok, Err, sym, ap, subst, arith, length-append, length-take, ◌++◌}
+use Rattle.std.proofs.Common.{◌≡◌, ◌∙◌, ℕ, zero, suc, ◌<◌, ◌≤◌, inl, inr, List, [], length, Option, Result, Ok, Err, sym, ap, subst, arith, length-append, length-take, ◌++◌}
 use Rattle.std.proofs.lemmas.Bool.{cases_lt}
 use Rattle.std.specs.declared.io.Error.{Error}
 use Rattle.buffer_redux.specs.Block.{Block, IsBlock, usable}

@@ -18,8 +18,8 @@ use Rattle.buffer_redux.specs.WriterLaws.{WritesInOrder-then}
 use Rattle.buffer_redux.specs.ReaderTells.{reader_log, ReaderWent, FaultsAlike-only, FaultsAlike-fault}
 use Rattle.buffer_redux.specs.WriterTells.{writer_log, TellsFailures, WriterWent, WriterCalled}
 use Rattle.buffer_redux.specs.Copy.{MovedBy, MovedTooMuch, LastWrite, CopyEnded, StreamFailed, TakesNothing, faults_met}
-use Rattle.programs.specs.Streams.{EndsOnce}
-use Rattle.copier.specs.Copy.{Copied, EitherFailed, IsBeginning, OnlyFlushLeft, InterruptedOften, OverTotal, RunFlushes}
+use Rattle.programs.specs.Streams.{EndsOnce, RefusedBeforeCalls}
+use Rattle.copier.specs.Copy.{Copied, EitherFailed, IsBeginning, OnlyFlushLeft, InterruptedOften, OverTotal}
 use Rattle.copier.specs.Copy as RunFaults
 
 -- nothing was given, and nothing received
@@ -194,7 +194,8 @@ module _ {R P W Q : Type 0} {remaining : R → Option (List ℕ)} {trace : W →
       → StreamFailed writer_log (WriterWent trace std_write_rules) (WriterCalled tells trace std_write_rules) e
       (reader_log s).fills (reader_log t).fills u v
       ⊎ MovedTooMuch e (reader_log s).fills (reader_log t).fills (writer_log u).writes (writer_log v).writes
-      → EitherFailed e s.log t.log u.log v.log ⊎ OverTotal e s.log t.log u.log v.log
+      → EitherFailed e s.log t.log u.log v.log
+      ⊎ (RefusedBeforeCalls e s.log t.log u.log v.log ⊎ OverTotal e s.log t.log u.log v.log)
   copy_caused e (inl (inl source)) = inl (inl (record {
     fault = FaultsAlike-fault s.own_calls.fills.faults t.own_calls.fills.faults s.log.reads.faults t.log.reads.faults
         e (went.faults refl) source.fault;
@@ -204,14 +205,14 @@ module _ {R P W Q : Type 0} {remaining : R → Option (List ℕ)} {trace : W →
     reader = only target.reader;
     writer = err_caused trace (reader_log s).fills (reader_log t).fills u v e target;
   }))
-  copy_caused e (inr much) = inr (record {
+  copy_caused e (inr much) = inr (inr (record {
     other = much.other;
     large = over much.count much.copies.moved much.large;
     met = record {
       reader = only much.copies.reader;
       writer = went'.met (tells_all u.policy) (own_met u v much.copies.writer);
     };
-  })
+  }))
 
   -- what the copy met of faults, the streams inside met
   rise_inside : faults_met (reader_log s).fills (writer_log u).writes + interrupt_limit + 1
@@ -310,13 +311,14 @@ module _ {R P W Q : Type 0} {remaining : R → Option (List ℕ)} {trace : W →
           omega (arith, ap (λ l. l.writes.flushes) told.1, sends.sent.flushes, copy_unflushed total moved),
         )
 
-        pub flushed_once : Flushes v (Ok tt) v' → RunFlushes (Ok total) s.log t.log u.log v'.log
+        flushed_once : Flushes v (Ok tt) v' → v'.log.writes.flushes ≡ u.log.writes.flushes + 1
         flushed_once f = elim (counted (Ok tt) f.sending f.sent_log f.sends f.ended) [
           | inl made ↦ made.1
           | inr failed ↦ absurd (let odd = failed.0.1 in cc)
         ]
 
-        pub flushed_at_most : (e : Error) → Flushes v (Err e) v' → RunFlushes (Err e) s.log t.log u.log v'.log
+        pub flushed_at_most : (e : Error) → Flushes v (Err e) v' → (v'.log.writes.flushes ≡ u.log.writes.flushes)
+            ⊎ (OnlyFlushLeft s.log t.log u.log v'.log × (v'.log.writes.flushes ≡ u.log.writes.flushes + 1))
         flushed_at_most e f = elim (counted (Err e) f.sending f.sent_log f.sends f.ended) [
           | inl made ↦ inr made
           | inr failed ↦ inl failed.1
@@ -372,9 +374,9 @@ module _ {R P W Q : Type 0} {remaining : R → Option (List ℕ)} {trace : W →
 
       pub flush_copied : (total : ℕ)
           → MovedBy total (reader_log s).fills (reader_log t).fills (writer_log u).writes (writer_log v).writes
-          → 0 < s.block.capacity → WritesInOrder v [] v' → IsFlushed v v'
+          → 0 < s.block.capacity → WritesInOrder v [] v' → Flushes v (Ok tt) v' → IsFlushed v v'
           → Copied total s.log t.log u.log v'.log
-      flush_copied total moved room flush flushed =
+      flush_copied total moved room flush flushes flushed =
           let all = whole s t u v' none none' moved.bytes (handed total moved)
           (WritesInOrder-then u v v' moved.bytes (passed total moved) flush)
           (nil_from_length t.block.bytes left) flushed.empty in
@@ -384,6 +386,7 @@ module _ {R P W Q : Type 0} {remaining : R → Option (List ℕ)} {trace : W →
             given = all.0;
             received = all.1;
             flushed = flushed.flushed;
+            flushes = flushed_once total moved room flush flushes;
             ended = omega (arith, went.ends (inl refl) room, ended.ends left);
             met = record {
               reader = only ended.last.reader;

@@ -1,8 +1,8 @@
 -- What a run moves from a reader to a writer.
-use Rattle.std.specs.Prelude.{◌≡◌, ◌≢◌, ℕ, ◌+◌, ◌-◌, ◌^◌, ◌<◌, ◌≤◌, ◌⊎◌, Bool, List, ◌++◌, length, Option, Result, Ok, Err, IsErrAnd, MatchResult, nat_le, if◌then◌else◌}
+use Rattle.std.specs.Prelude.{◌≡◌, ℕ, ◌+◌, ◌-◌, ◌^◌, ◌<◌, ◌≤◌, ◌⊎◌, Bool, List, ◌++◌, length, Option, Result, Ok, Err, IsErrAnd, MatchResult, nat_le, if◌then◌else◌}
 use Rattle.std.specs.IoError.{error_kind}
 use Rattle.std.specs.declared.io.Error.{Error}
-use Rattle.std.specs.declared.io.ErrorKind.TheVariants.{Interrupted, Other, OutOfMemory, WriteZero}
+use Rattle.std.specs.declared.io.ErrorKind.TheVariants.{Interrupted, Other, WriteZero}
 use Rattle.buffer_redux.specs.Block.{IsNew}
 use Rattle.buffer_redux.specs.Buffered.{Buffered}
 use Rattle.buffer_redux.specs.BufWriter.{WasFlushed}
@@ -14,8 +14,6 @@ use Rattle.buffer_redux.specs.StreamLog.{StreamLog}
 use Rattle.buffer_redux.specs.WriterTells.{WriterCalled, WriterWent, writer_log}
 use Rattle.buffer_redux.specs.declared.policy.StdPolicy.{StdPolicy}
 use Rattle.programs.specs.Streams.{GaveNothing, MetNoFault, ReceivedFlushed, RefusedBeforeCalls, WriterFailed, capacity_asked, kind_asked}
-use Rattle.programs.specs.declared.ending.Ending.{Ending}
-use Rattle.programs.specs.declared.ending.Ending.TheVariants.{Done, Failed, Usage, Memory}
 
 -- what was received is a beginning of what was given
 pub record IsBeginning (read read' written written' : StreamLog) : Type 0 where
@@ -24,13 +22,15 @@ pub record IsBeginning (read read' written written' : StreamLog) : Type 0 where
   pub given : read'.reads.given ≡ read.reads.given ++ (received ++ rest)
   pub taken : written'.writes.received ≡ written.writes.received ++ received
 
--- what was received is what was given, all of it: the reader answered `Ok(0)`. Both streams were at most interrupted
+-- what was received is what was given, all of it: the reader answered `Ok(0)`, and the writer was flushed once. Both streams were
+-- at most interrupted
 pub record Copied (total : ℕ) (read read' written written' : StreamLog) : Type 0 where
   pub bytes : List ℕ
   pub count : length bytes ≡ total
   pub given : read'.reads.given ≡ read.reads.given ++ bytes
   pub received : written'.writes.received ≡ written.writes.received ++ bytes
   pub flushed : ReceivedFlushed written'
+  pub flushes : written'.writes.flushes ≡ written.writes.flushes + 1
   pub ended : GaveNothing read read'
   pub met : MetNoFault read read' written written'
 
@@ -64,36 +64,15 @@ abbrev pub InterruptedOften : Error → StreamLog → StreamLog → StreamLog �
 InterruptedOften e read read' written written' = error_kind e ≡ Interrupted
     → FaultsRise (interrupt_limit + 1) read read' written written' ⊎ OnlyFlushLeft read read' written written'
 
--- the writer was flushed once where all was copied, or just that was left; and else never
-abbrev pub RunFlushes : Result ℕ Error → StreamLog → StreamLog → StreamLog → StreamLog → Type 0
-RunFlushes (Ok total) read read' written written' = written'.writes.flushes ≡ written.writes.flushes + 1
-RunFlushes (Err e) read read' written written' =
-    (written'.writes.flushes ≡ written.writes.flushes)
-    ⊎ (OnlyFlushLeft read read' written written' × (written'.writes.flushes ≡ written.writes.flushes + 1))
-
--- why a run failed with this error: a stream failed with it, a buffer was refused, or the total passed what a `u64` counts
-abbrev pub RunFailed : Error → StreamLog → StreamLog → StreamLog → StreamLog → Type 0
-RunFailed e read read' written written' =
-    EitherFailed e read read' written written'
-    ⊎ (RefusedBeforeCalls e read read' written written' ⊎ OverTotal e read read' written written')
-
--- a run failed with this error, and flushed nothing
+-- a run failed with this error, and flushed nothing: a stream failed with it, a buffer was refused, or the total passed what a
+-- `u64` counts. The writer's own flush was made where just that was left
 pub record RunStopped (e : Error) (read read' written written' : StreamLog) : Type 0 where
-  pub caused : RunFailed e read read' written written'
+  pub caused : EitherFailed e read read' written written'
+      ⊎ (RefusedBeforeCalls e read read' written written' ⊎ OverTotal e read read' written written')
   pub often : InterruptedOften e read read' written written'
   pub not_flushed : written'.writes.flushed ≡ written.writes.flushed
-  pub flushes : RunFlushes (Err e) read read' written written'
-
--- what a run did that ended so
-abbrev pub RunEnded : Ending → StreamLog → StreamLog → StreamLog → StreamLog → Type 0
-RunEnded Done read read' written written' =
-    (total : ℕ) × Copied total read read' written written' × RunFlushes (Ok total) read read' written written'
-RunEnded Failed read read' written written' =
-    (e : Error) × (error_kind e ≢ OutOfMemory) × RunStopped e read read' written written'
-RunEnded Usage read read' written written' = (read' ≡ read) × (written' ≡ written)
-RunEnded Memory read read' written written' =
-    (e : Error) × (error_kind e ≡ OutOfMemory) × RunStopped e read read' written written'
-RunEnded other read read' written written' = ⊥
+  pub flushes : (written'.writes.flushes ≡ written.writes.flushes)
+      ⊎ (OnlyFlushLeft read read' written written' × (written'.writes.flushes ≡ written.writes.flushes + 1))
 
 -- one copy between two buffered streams, turn by turn, and where it ended with nothing left in the first, one flush of the second
 pub record CopiesAll {R W : Type 0} (remaining : R → Option (List ℕ)) (tells : W → StreamLog) (trace : W → W → Type 0)
@@ -128,10 +107,6 @@ pub record RunsThrough {R W : Type 0} (log : R → StreamLog) (log' : W → Stre
   pub copies : CopiesAll remaining log' trace answer source source' target target'
   pub reader_left : (source'.inner ≡ reader') × (source'.log ≡ log reader')
   pub writer_left : (target'.inner ≡ writer') × (target'.log ≡ log' writer')
-
--- the reader's last ask, where there was one, was for all of a buffer of this kind and capacity
-abbrev pub OffersBuffer : Bool → ℕ → StreamLog → StreamLog → Type 0
-OffersBuffer ring cap read read' = (read'.reads ≡ read.reads) ⊎ (read'.reads.offer ≡ capacity_asked ring cap)
 
 -- how many bytes a writer of this capacity holds behind a write at most: a single byte goes past a buffer of one
 abbrev pub most_held : ℕ → ℕ

@@ -1,11 +1,11 @@
 //! The copy itself, over any two streams that tell.
-ghost use Rattle.std.specs.Prelude.{◌≡◌, ◌≤◌, ◌⊎◌, ◌↔◌, ℕ, Bool, Result, codes, map, string_bytes, IfOk, IfErr, IsErrAnd, OnErr};
+ghost use Rattle.std.specs.Prelude.{◌≡◌, ◌≢◌, ◌≤◌, ◌⊎◌, ℕ, Bool, Result, codes, map, string_bytes, IfOk, IfErr, IsErrAnd, MatchResult};
 ghost use Rattle.std.specs.declared.io.Error.{Error};
 ghost use Rattle.buffer_redux.specs.Block.{IsBlock};
 ghost use Rattle.programs.specs.Ending.{EndsAs};
-ghost use Rattle.programs.specs.Streams.{EndsOnce, IsEmptyBuffer, RefusedBeforeCalls, capacity_asked};
+ghost use Rattle.programs.specs.Streams.{EndsOnce, IsEmptyBuffer, OffersBuffer, RefusedBeforeCalls, capacity_asked};
 ghost use Rattle.copier.specs.Settings.{AskFor};
-ghost use Rattle.copier.specs.Copy.{CopiesAll, EitherFailed, HoldsBackAtMost, OffersBuffer, OverTotal, Copied, InterruptedOften, IsBeginning, most_held, RunEnded, RunFailed, RunFlushes, RunsThrough};
+ghost use Rattle.copier.specs.Copy.{CopiesAll, Copied, HoldsBackAtMost, IsBeginning, RunStopped, RunsThrough, most_held};
 
 use crate::settings::settings;
 use buffer_redux::tell::{TellRead, TellWrite};
@@ -29,21 +29,17 @@ pub fn run<R: TellRead, W: TellWrite>(
 ) -> (io::Result<u64>, R, W)
     requires some { 1 ≤ cap }
     requires most { cap ≤ GREATEST_CAPACITY }
+    ensures a_beginning { IsBeginning (R.log reader) (R.log result.1) (W.log writer) (W.log result.2) }
     ensures copied { IfOk result.0 (λ total.
         Copied total (R.log reader) (R.log result.1) (W.log writer) (W.log result.2)) }
-    ensures caused { IfErr result.0 (λ e.
-        RunFailed e (R.log reader) (R.log result.1) (W.log writer) (W.log result.2)) }
-    ensures often { IfErr result.0 (λ e.
-        InterruptedOften e (R.log reader) (R.log result.1) (W.log writer) (W.log result.2)) }
-    ensures a_beginning { IsBeginning (R.log reader) (R.log result.1) (W.log writer) (W.log result.2) }
+    ensures stopped { IfErr result.0 (λ e.
+        RunStopped e (R.log reader) (R.log result.1) (W.log writer) (W.log result.2)) }
     ensures once { EndsOnce (R.log reader).reads (R.log result.1).reads }
     ensures through { RunsThrough R.log W.log R.remaining W.trace ring cap result.0 reader result.1 writer result.2
         ⊎ IsErrAnd result.0 (λ e. RefusedBeforeCalls e (R.log reader) (R.log result.1) (W.log writer) (W.log result.2)) }
     ensures offers { OffersBuffer ring cap (R.log reader) (R.log result.1) }
     ensures sends { HoldsBackAtMost (most_held (capacity_asked ring cap)) (R.log reader) (R.log result.1)
         (W.log writer) (W.log result.2) }
-    ensures not_flushed { OnErr result.0 ((W.log result.2).writes.flushed ≡ (W.log writer).writes.flushed) }
-    ensures flushes { RunFlushes result.0 (R.log reader) (R.log result.1) (W.log writer) (W.log result.2) }
 {
     let (mut source, mut target) = match buffered(alloc, ring, (cap, cap), reader, writer) {
         Ok(buffers) => buffers,
@@ -63,22 +59,15 @@ fn copy_all<R: TellRead, W: TellWrite>(
     requires source { IsEmptyBuffer 1 source.old.block }
     requires target { IsEmptyBuffer 1 target.old.block }
     requires whole { IsBlock source.old.block }
-    ensures copied { IfOk result (λ total.
-        Copied total source.old.log source.new.log target.old.log target.new.log) }
-    ensures caused { IfErr result (λ e.
-        EitherFailed e source.old.log source.new.log target.old.log target.new.log
-        ⊎ OverTotal e source.old.log source.new.log target.old.log target.new.log) }
-    ensures often { IfErr result (λ e.
-        InterruptedOften e source.old.log source.new.log target.old.log target.new.log) }
     ensures a_beginning { IsBeginning source.old.log source.new.log target.old.log target.new.log }
+    ensures copied { IfOk result (λ total. Copied total source.old.log source.new.log target.old.log target.new.log) }
+    ensures stopped { IfErr result (λ e. RunStopped e source.old.log source.new.log target.old.log target.new.log) }
     ensures once { EndsOnce source.old.log.reads source.new.log.reads }
     ensures all { CopiesAll R.remaining W.log W.trace result source.old source.new target.old target.new }
     ensures offers { (source.new.log.reads ≡ source.old.log.reads)
         ⊎ (source.new.log.reads.offer ≡ source.old.block.capacity) }
     ensures sends { HoldsBackAtMost (most_held target.old.block.capacity) source.old.log source.new.log
         target.old.log target.new.log }
-    ensures not_flushed { OnErr result (target.new.log.writes.flushed ≡ target.old.log.writes.flushed) }
-    ensures flushes { RunFlushes result source.old.log source.new.log target.old.log target.new.log }
 {
     let total = copy_buf(source, target)?;
     if source.buf_len() > 0 {
@@ -96,13 +85,15 @@ pub fn run_asked<R: TellRead, W: TellWrite>(
     reader: R,
     writer: W,
 ) -> (Ending, R, W)
-    ensures usage { (result.0 ≡ Ending.Usage)
-        ↔ ¬ ((ring : Bool) × (capacity : ℕ) × AskFor (map string_bytes words.now) ring capacity) }
-    ensures ended { RunEnded result.0 (R.log reader) (R.log result.1) (W.log writer) (W.log result.2) }
+    ensures usage { ((result.0 ≡ Ending.Usage) × (R.log result.1 ≡ R.log reader) × (W.log result.2 ≡ W.log writer)
+        × ¬ ((ring : Bool) × (cap : ℕ) × AskFor (map string_bytes words.now) ring cap))
+        ⊎ ((result.0 ≢ Ending.Usage) × (ring : Bool) × (cap : ℕ) × AskFor (map string_bytes words.now) ring cap) }
     ensures a_beginning { IsBeginning (R.log reader) (R.log result.1) (W.log writer) (W.log result.2) }
     ensures once { EndsOnce (R.log reader).reads (R.log result.1).reads }
-    ensures through { (ring : Bool) (cap : ℕ) → AskFor (map string_bytes words.now) ring cap
+    ensures ran { (ring : Bool) (cap : ℕ) → AskFor (map string_bytes words.now) ring cap
         → (answer : Result ℕ Error) × EndsAs answer result.0
+        × MatchResult answer (λ total. Copied total (R.log reader) (R.log result.1) (W.log writer) (W.log result.2))
+        (λ e. RunStopped e (R.log reader) (R.log result.1) (W.log writer) (W.log result.2))
         × (RunsThrough R.log W.log R.remaining W.trace ring cap answer reader result.1 writer result.2
         ⊎ IsErrAnd answer (λ e. RefusedBeforeCalls e (R.log reader) (R.log result.1) (W.log writer) (W.log result.2))) }
     ensures offers { (ring : Bool) (cap : ℕ) → AskFor (map string_bytes words.now) ring cap

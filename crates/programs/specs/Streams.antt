@@ -1,5 +1,5 @@
 -- How the two streams of a run fared.
-use Rattle.std.specs.Prelude.{◌≡◌, ℕ, ◌+◌, ◌^◌, ◌<◌, ◌≤◌, Bool, [], if◌then◌else◌}
+use Rattle.std.specs.Prelude.{◌≡◌, ℕ, ◌+◌, ◌^◌, ◌<◌, ◌≤◌, ◌⊎◌, Bool, [], if◌then◌else◌}
 use Rattle.std.specs.IoError.{error_kind}
 use Rattle.std.specs.declared.io.Error.{Error}
 use Rattle.std.specs.declared.io.ErrorKind.TheVariants.{Other, OutOfMemory}
@@ -21,6 +21,10 @@ kind_asked ring = if ring then Ring else Plain
 
 abbrev pub capacity_asked : Bool → ℕ → ℕ
 capacity_asked ring cap = if ring then round cap else cap
+
+-- the reader's last ask, where there was one, was for all of a buffer of this kind and capacity
+abbrev pub OffersBuffer : Bool → ℕ → StreamLog → StreamLog → Type 0
+OffersBuffer ring cap read read' = (read'.reads ≡ read.reads) ⊎ (read'.reads.offer ≡ capacity_asked ring cap)
 
 -- an empty buffer, of this capacity at least
 pub record IsEmptyBuffer (cap : ℕ) (b : Block) : Type 0 where

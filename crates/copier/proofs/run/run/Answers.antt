@@ -1,6 +1,5 @@
 -- The streams come back as the copy left them, so what it says of their logs is what the run says.
 use Rattle.std.proofs.Common.{inl, sym}
-use Rattle.copier.proofs.Endings.{run_caused}
 use Rattle.copier.proofs.Moving.{IsBeginning-none}
 use Rattle.copier.proofs.run.run.Goals as goal
 
@@ -19,35 +18,15 @@ returns-clause-a_beginning g c =
     )
     c.copy_all-answer.ensures.a_beginning
 
-pub returns-clause-flushes : goal.returns-clause-flushes
-returns-clause-flushes g c =
+pub returns-clause-stopped : goal.returns-clause-stopped
+returns-clause-stopped g c =
     rw (
       c.into_inner_with_buffer-reader.ensures.log,
       c.into_inner_with_buffer-writer.ensures.log,
       ← c.in-Ok.ensures.read,
       ← c.in-Ok.ensures.written,
     )
-    c.copy_all-answer.ensures.flushes
-
-pub returns-clause-caused : goal.returns-clause-caused
-returns-clause-caused g c =
-    rw (
-      c.into_inner_with_buffer-reader.ensures.log,
-      c.into_inner_with_buffer-writer.ensures.log,
-      ← c.in-Ok.ensures.read,
-      ← c.in-Ok.ensures.written,
-    )
-    (run_caused _ _ _ _ _ c.copy_all-answer.ensures.caused)
-
-pub returns-clause-often : goal.returns-clause-often
-returns-clause-often g c =
-    rw (
-      c.into_inner_with_buffer-reader.ensures.log,
-      c.into_inner_with_buffer-writer.ensures.log,
-      ← c.in-Ok.ensures.read,
-      ← c.in-Ok.ensures.written,
-    )
-    c.copy_all-answer.ensures.often
+    c.copy_all-answer.ensures.stopped
 
 pub returns-clause-through : goal.returns-clause-through
 returns-clause-through g c =

@@ -1,7 +1,7 @@
 -- Words ask for one buffer and one capacity at most, within range, and no run that began ends as `Usage`.
 use Rattle.std.specs.Prelude.{unwrap_or}
-use Rattle.std.proofs.Common.{◌≡◌, ℕ, Bool, ap, refl, sym}
-use Rattle.copier.proofs.Endings.{never_usage, run_ended}
+use Rattle.std.proofs.Common.{◌≡◌, ℕ, Bool, inl, inr, ap, refl, sym}
+use Rattle.copier.proofs.Runs.{never_usage, went_so}
 use Rattle.copier.proofs.Moving.{IsBeginning-none}
 use Rattle.copier.proofs.SettingsFacts.{asked_in_range}
 use Rattle.copier.proofs.run.run_asked.Goals as goal
@@ -16,22 +16,29 @@ pub returns-in_default-clause-a_beginning : goal.returns-in_default-clause-a_beg
 returns-in_default-clause-a_beginning g c = IsBeginning-none _ _
 
 pub returns-in_default-clause-usage : goal.returns-in_default-clause-usage
-returns-in_default-clause-usage g c = (
-  λ is asks.
+returns-in_default-clause-usage g c = inl (
+  refl,
+  refl,
+  refl,
+  λ asks.
       let told = (c.settings.ensures asks.0 asks.1).1 asks.2 in
       cc,
-  λ none. refl,
 )
 
-pub returns-in_default-clause-through : goal.returns-in_default-clause-through
-returns-in_default-clause-through g c = λ ring cap asks. absurd (let told = (c.settings.ensures ring cap).1 asks in cc)
+pub returns-in_default-clause-ran : goal.returns-in_default-clause-ran
+returns-in_default-clause-ran g c = λ ring cap asks. absurd (let told = (c.settings.ensures ring cap).1 asks in cc)
 
-pub returns-clause-through : goal.returns-clause-through
-returns-clause-through g c = λ ring cap asks.
+pub returns-clause-ran : goal.returns-clause-ran
+returns-clause-ran g c = λ ring cap asks.
     let told = (c.in-Some.ensures ring cap).1 asks in
     let ring_is : ring ≡ c.in-Some.ring = sym (ap (λ o. (unwrap_or {T = Bool × ℕ} o (ring, cap)).0) told) in
     let cap_is : cap ≡ c.in-Some.cap = sym (ap (λ o. (unwrap_or {T = Bool × ℕ} o (ring, cap)).1) told) in
-    rw (ring_is, cap_is) (c.run-answer.result.0, c.of.ensures, c.run-answer.ensures.through)
+    rw (ring_is, cap_is) (
+      c.run-answer.result.0,
+      c.of.ensures,
+      went_so _ _ c.run-answer.result.0 c.run-answer.ensures.copied c.run-answer.ensures.stopped,
+      c.run-answer.ensures.through,
+    )
 
 pub returns-clause-offers : goal.returns-clause-offers
 returns-clause-offers g c = λ ring cap asks.
@@ -48,12 +55,9 @@ returns-clause-sends g c = λ ring cap asks.
     rw (ring_is, cap_is) c.run-answer.ensures.sends
 
 pub returns-clause-usage : goal.returns-clause-usage
-returns-clause-usage g c = (
-  λ is asks. never_usage c.run-answer.result.0 _ c.of.ensures is,
-  λ none. absurd (none (c.in-Some.ring, c.in-Some.cap, (c.in-Some.ensures c.in-Some.ring c.in-Some.cap).0 refl)),
+returns-clause-usage g c = inr (
+  never_usage c.run-answer.result.0 _ c.of.ensures,
+  c.in-Some.ring,
+  c.in-Some.cap,
+  (c.in-Some.ensures c.in-Some.ring c.in-Some.cap).0 refl,
 )
-
-pub returns-clause-ended : goal.returns-clause-ended
-returns-clause-ended g c =
-    let run = c.run-answer.ensures in
-    run_ended c.run-answer.result.0 _ _ _ _ _ c.of.ensures run.copied run.caused run.often run.not_flushed run.flushes
