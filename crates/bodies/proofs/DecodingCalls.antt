@@ -1,5 +1,5 @@
 -- What the calls of a filter of payload do.
-use Rattle.std.proofs.Common.{◌≡◌, ℕ, ◌+◌, ◌<◌, ◌≤◌, ◌⊎◌, inl, inr, List, [], ◌∷◌, ◌++◌, length, nat_lt, take, true, false, Bool, Option, Result, Ok, Err, OnErr, refl, sym, ap, subst, ◌∙◌, arith, append-nil, length-take-le}
+use Rattle.std.proofs.Common.{◌≡◌, ℕ, ◌+◌, ◌<◌, ◌≤◌, ◌⊎◌, inl, inr, List, [], ◌∷◌, ◌++◌, length, if◌then◌else◌, nat_lt, take, true, false, Bool, Option, Result, Ok, Err, OnErr, refl, sym, ap, subst, ◌∙◌, arith, append-nil, length-take-le}
 use Rattle.std.proofs.lemmas.List.Elements.{All-cons, All-nil}
 use Rattle.std.proofs.lemmas.List.{nil_from_length, with_items_is}
 use Rattle.std.specs.List.{concat}
@@ -20,12 +20,13 @@ use Rattle.chunked.specs.CodingLaws.{breaks_at}
 use Rattle.chunked.specs.declared.error.Malformed.{Malformed}
 use Rattle.chunked.specs.declared.place.Place.TheVariants.{Line}
 use Rattle.forward.specs.declared.error.AskError.{AskError}
+use Rattle.forward.specs.declared.error.AskError.TheVariants as ask
 use Rattle.forward.specs.Filter.{FailedToRead}
 use Rattle.forward.specs.Target.{bytes_taken}
 use Rattle.programs.specs.TargetLaws.{TakesAll-not_passed, TakesAll-passed, WasFlushed-sent, WasFlushed-writes}
 use Rattle.bodies.specs.Words.{Error, WasFlushed, Buffered, std_read_rules, StreamLog, StdPolicy, BodyWent, IsBodyOfChunks, IsBodyReader, TakesAll, TookWholeBody, LooksBehind, ReadsPayload, chunked, handed_of, taken_count, AskAnswers, FilterAsks, FilterFlushes, FilterRules, NeverGaveNothing, FilterPasses, StaysOpen, taken_more, target_of, WritesInOrder, RunError}
 use Rattle.bodies.specs.Decode.{IsDue}
-use Rattle.bodies.specs.Decoding.{ChunkedState, HandsPayloadPieces, HoldsPiece, MayDecode, NoneBuffered, TakesPayload, ask_error, decoding_rules, end_answer, fault_behind, held_payload, most_wanted}
+use Rattle.bodies.specs.Decoding.{ChunkedState, HandsPayloadPieces, HoldsPiece, MayDecode, NoneBuffered, TakesPayload, ask_error, decoding_rules, end_answer, held_payload, most_wanted}
 use Rattle.bodies.specs.Decoding as Source
 use Rattle.bodies.specs.DecodingLaws.{hands_held, hands_none, none_held}
 use Rattle.bodies.specs.FiltersLaws.{fault_gives}
@@ -78,7 +79,7 @@ module _ {R W : Type 0} (remaining : R → Option (List ℕ)) (s : Decoding R W)
     told = refl;
     still = refl;
     kept = λ some. some;
-    none = λ none. absurd (omega (arith, some, none));
+    all = inl some;
     ready = ready;
   }
 
@@ -107,13 +108,13 @@ module _ {R W : Type 0} (remaining : R → Option (List ℕ)) (s : Decoding R W)
 
     pub held_on : (n : ℕ) → BodyWent remaining std_read_rules (chunked s.source.coding.0) s.source (take n out) m
         → m.reader.log ≡ s.source.reader.log → n ≤ length out → IsBodyReader (chunked m.coding.0) m
-        → (n ≡ 0 → NoneBuffered m) → HoldsPiece remaining s (read m n)
+        → (n ≡ 8191) ⊎ NoneBuffered m → HoldsPiece remaining s (read m n)
     held_on n went told bound whole all = record {
       hands = read_hands m n went;
       told = told;
       still = refl;
       kept = λ some. absurd (omega (arith, some, none));
-      none = all;
+      all = inr all;
       ready = read_ready m n went (omega (arith, bound, len, ready.room)) whole;
     }
 
@@ -290,7 +291,7 @@ module _ {R W : Type 0} (remaining : R → Option (List ℕ)) (s : Decoding R W)
         → TellsOnce remaining std_read_rules (chunked s.source.coding.0) s.source.reader s.source.place 0 m.reader m.place
         → (t : ChunkedState R) → most_wanted t ≡ most_wanted m → rules.waits (asked t s.held)
         → FailedToRead rules e s (asked t s.held) → StaysOpen rules s (asked t s.held)
-        → AskAnswers rules s (Err (fault_behind came e)) (asked t s.held)
+        → AskAnswers rules s (Err (if came then ask.IoBehind e else ask.Io e)) (asked t s.held)
     faulted e true is went tells t same waits fault still =
         (waits, fault, still, omega (arith, same, passed_some remaining s.source m went tells is))
     faulted e false is went tells t same waits fault still =

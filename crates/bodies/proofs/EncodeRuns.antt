@@ -230,5 +230,6 @@ refused read read' written written' e p =
     let none_yet : IsChunks [] [] = record { payloads = []; carried = All-nil IsCarried; equal = refl; joined = refl } in
     rw (p.read_same, p.written_same) (record {
       ran = (moved, unended moved none_yet (omega arith), inr (rw (p.read_same, p.written_same) at p));
+      offers = inl refl;
       promptly = RunsPromptly-none IsDue 1 1 read written;
     })

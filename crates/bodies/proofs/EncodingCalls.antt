@@ -22,7 +22,7 @@ use Rattle.bodies.specs.Words.{around, AskAnswers, FilterAsks, body_end, Buffere
 use Rattle.bodies.specs.Encode.{EndsBody}
 use Rattle.bodies.specs.Encoding.{encoding_rules, MayEncode}
 use Rattle.bodies.specs.EncodingLaws.{HandsReads-none}
-use Rattle.bodies.specs.FillLaws.{fill_asks, fill_leaves, some_came}
+use Rattle.bodies.specs.FillLaws.{fill_asks, fill_leaves, fill_offers, some_came}
 use Rattle.bodies.specs.FiltersLaws.{ended, fault_gives, fill_asked, fill_capacity, std_fault}
 use Rattle.bodies.specs.declared.encoding.Encoding.{Encoding}
 use Rattle.bodies.specs.declared.error.RunError.TheVariants.{Write}
@@ -183,7 +183,7 @@ module _ {R W : Type 0} (remaining : R → Option (List ℕ)) (tells : W → Str
   -- what is buffered is made a chunk
   module _ (some : 0 < length s.source.block.bytes) (held : IsBlock s.source.block) (c : ChunkedWriterState W) where
     small : around + length s.source.block.bytes ≤ s.target.writer.block.capacity
-    small = omega (arith, held.fits, ready.fits)
+    small = omega (arith, held.fits, ready.fits, ready.capacity)
 
     pub not_passed : (e : Error) → WritesChunk tells trace s.target s.source.block.bytes (Err e) c
         → FilterPasses rules s (Err e) (record s { target = c })
@@ -226,8 +226,8 @@ module _ {R W : Type 0} (remaining : R → Option (List ℕ)) (tells : W → Str
         record {
           told = told;
           ready = record {
-            capacity = omega (arith, ready.capacity, gone.capacity);
-            fits = omega (arith, ready.fits, same, chunks.went.capacity);
+            capacity = same ∙ ready.capacity;
+            fits = omega (arith, ready.fits, chunks.went.capacity);
             between = chunks.due ∙ ready.between;
             whole = p.whole;
           };
@@ -284,7 +284,7 @@ module _ {R W : Type 0} (remaining : R → Option (List ℕ)) (tells : W → Str
     }
 
   -- more is asked for
-  module _ (lacks : s.source.block.bytes ≡ []) (t : Buffered R StdPolicy)
+  module _ (lacks : s.source.block.bytes ≡ []) (held : IsBlock s.source.block) (t : Buffered R StdPolicy)
       (along : ReadsAlong remaining std_read_rules s.source [] t) where
     abbrev after : Encoding R W
     after = record s { source = t }
@@ -303,8 +303,8 @@ module _ {R W : Type 0} (remaining : R → Option (List ℕ)) (tells : W → Str
         record {
           told = refl;
           ready = record {
-            capacity = omega (arith, ready.capacity, along.capacity);
-            fits = omega (arith, ready.fits, same);
+            capacity = same ∙ ready.capacity;
+            fits = ready.fits;
             between = ready.between;
             whole = ready.whole;
           };
@@ -317,7 +317,7 @@ module _ {R W : Type 0} (remaining : R → Option (List ℕ)) (tells : W → Str
             takes = ChunksWent-none trace none joins s.target;
           };
           sent = λ sent. sent;
-          asks = (asked, some);
+          asks = record { asked = asked; some = some; offer = fill_offers s.source t filled fills held lacks some ∙ ready.capacity };
           once = record { once = quiet; quiet = λ closed. absurd closed; closed = λ closed. closed };
           looks = elim answer as (λ a. OnErr a (Unit {0})) [ Ok more ↦ tt | Err why ↦ tt ];
           answers = answers;
@@ -327,7 +327,7 @@ module _ {R W : Type 0} (remaining : R → Option (List ℕ)) (tells : W → Str
     pub asked : {A : Type 0} (a : A) → Fills std_read_rules s.source (Ok a) t → (empty : Bool)
         → empty ≡ (length t.block.bytes == 0) → FilterAsks rules s (Ok (not empty)) after
     asked a fills true is =
-        let end = ended s.source t a fills is ready.capacity in
+        let end = ended s.source t a fills is (omega (arith, ready.capacity)) in
         empty_asked (Ok a) fills (λ same. omega (arith, end.1, ap (λ l. l.reads.zero_reads) same))
         (omega (arith, end.1, ap length end.0, ap length fills.caused)) (omega (arith, end.1)) (Ok false) (end, fills.caused)
     asked a fills false is =

@@ -61,30 +61,26 @@ abbrev pub NoneBuffered : {R : Type 0} → ChunkedState R → Type 0
 NoneBuffered d = TookWholeBody (chunked d.coding.0) d
     ⊎ ((d.reader.block.bytes ≡ []) ⊎ ((why : Malformed) × BreaksAt d.coding.0 d.place d.taken d.reader.block.bytes why))
 
--- where none was held, a piece of what is buffered is, or there is none; and the reader inside wasn't asked
+-- where none was held, a piece of what is buffered is: of 8191 bytes, or of all that can be handed out of it; and the reader
+-- inside wasn't asked
 pub record HoldsPiece {R W : Type 0} (remaining : R → Option (List ℕ)) (s t : Decoding R W) : Type 0 where
   pub hands : HandsPayloadPieces remaining s [] t
   pub told : t.source.reader.log ≡ s.source.reader.log
   pub still : t.target ≡ s.target
   pub kept : 0 < s.held → 0 < t.held
-  pub none : t.held ≡ 0 → NoneBuffered t.source
+  pub all : (0 < s.held) ⊎ ((t.held ≡ 8191) ⊎ NoneBuffered t.source)
   pub ready : MayDecode t
 
--- what an ask answers where the stream failed, behind bytes that came or none; where no payload came; and where the body ended,
--- by whether the stream did
-abbrev pub fault_behind : Bool → Error → AskError RunError
-fault_behind true e = ask.IoBehind e
-fault_behind false e = ask.Io e
-
+-- what an ask answers where no payload came; and where the body ended, by whether the stream did
 abbrev pub ask_error : Bool → BodyError Malformed → AskError RunError
 ask_error came (body.Wrong why right) = Wrong (NotChunked why right)
 ask_error came (body.Truncated right) = Wrong (Truncated right)
-ask_error came (body.Io e) = fault_behind came e
+ask_error came (body.Io e) = if came then ask.IoBehind e else ask.Io e
 
 abbrev pub end_answer : Bool → Result Bool Error → ℕ → Result Bool (AskError RunError)
 end_answer came (Ok true) taken = Ok false
 end_answer came (Ok false) taken = Err (Wrong (Behind taken))
-end_answer came (Err e) taken = Err (fault_behind came e)
+end_answer came (Err e) taken = Err (if came then ask.IoBehind e else ask.Io e)
 
 pub record LooksOn {R : Type 0} (remaining : R → Option (List ℕ)) (s : ChunkedState R) (came : Bool)
     (answer : Result Bool (AskError RunError)) (t : ChunkedState R) : Type 0 where

@@ -1,9 +1,9 @@
 -- What a run of `encode` moves from a reader to a writer.
-use Rattle.std.specs.Prelude.{◌≡◌, ℕ, ◌+◌, ◌<◌, ◌≤◌, ◌⊎◌, List, [], ◌++◌, length, min, Result, Ok, Err, MatchResult}
+use Rattle.std.specs.Prelude.{◌≡◌, ℕ, ◌+◌, ◌<◌, ◌≤◌, ◌⊎◌, List, [], ◌++◌, length, min, Result, Ok, Err, MatchResult, false}
 use Rattle.std.specs.declared.io.Error.{Error}
 use Rattle.buffer_redux.specs.StreamLog.{ReadLog}
 use Rattle.forward.specs.Flushes.{FlushesSend}
-use Rattle.bodies.specs.Words.{Buffered, FaultsOften, FewFaults, failure_count, IsInterrupt, WritesInOrder, MetInterrupts, SendErrorCaused, StreamLog, StdPolicy, IsBodyOfChunks, IsChunks, body_end, Limits, RunsPromptly, WritesOn, AllSent, MetNoFault, ReadFailed, WriteGaveUp, OverCount, RefusedBeforeCalls, RunError}
+use Rattle.bodies.specs.Words.{Buffered, FaultsOften, FewFaults, failure_count, IsInterrupt, WritesInOrder, MetInterrupts, SendErrorCaused, StreamLog, StdPolicy, IsBodyOfChunks, IsChunks, body_end, Limits, RunsPromptly, WritesOn, AllSent, MetNoFault, ReadFailed, WriteGaveUp, OffersBuffer, OverCount, RefusedBeforeCalls, RunError}
 use Rattle.bodies.specs.Moved.{Moved, MovedAll}
 use Rattle.bodies.specs.declared.error.RunError.TheVariants.{Read, Write, Io}
 
@@ -80,7 +80,9 @@ EncodeRan read read' written written' (Err (Io e)) =
     × (OverCount e (length m.taken) read read' written written' ⊎ RefusedBeforeCalls e read read' written written')
 EncodeRan read read' written written' (Err other) = ⊥
 
--- all that a run of `encode` promises: the writer was flushed once for each ask of the reader at most, and once more
+-- all that a run of `encode` promises: each ask was for 8192 bytes, so that no chunk has more, and the writer was flushed once for
+-- each at most, and once more
 pub record Encodes (read read' written written' : StreamLog) (answer : Result (Unit {0}) RunError) : Type 0 where
   pub ran : EncodeRan read read' written written' answer
+  pub offers : OffersBuffer false 8192 read read'
   pub promptly : RunsPromptly IsDue (failure_count answer) 1 read read' written written'

@@ -8,9 +8,9 @@ use Rattle.bodies.specs.declared.encoding.Encoding.{Encoding}
 
 -- what each call of the filter wants
 pub record MayEncode {R W : Type 0} (s : Encoding R W) : Type 0 where
-  pub capacity : 0 < s.source.block.capacity
+  pub capacity : s.source.block.capacity ≡ 8192
   -- no chunk of what one read may give is begun that doesn't fit
-  pub fits : around + s.source.block.capacity ≤ s.target.writer.block.capacity
+  pub fits : around + 8192 ≤ s.target.writer.block.capacity
   pub between : s.target.due ≡ 0
   pub whole : IsChunkedWriter s.target
 
@@ -22,6 +22,12 @@ pub record HandsReads {R : Type 0} (remaining : R → Option (List ℕ)) (s : Bu
   pub each : t.log.reads.asks + s.log.reads.zero_reads + length s.log.reads.faults + min 1 (length s.block.bytes)
       ≡ s.log.reads.asks + t.log.reads.zero_reads + length t.log.reads.faults + length payloads + min 1 (length t.block.bytes)
   pub room : t.block.capacity ≡ s.block.capacity
+
+-- the reader inside was asked, for a whole buffer, where nothing was buffered
+pub record AsksBuffer {R : Type 0} (s t : Buffered R StdPolicy) : Type 0 where
+  pub asked : Asked (λ bytes. bytes ≡ []) s t
+  pub some : s.log.reads.asks < t.log.reads.asks
+  pub offer : t.log.reads.offer ≡ 8192
 
 -- at the end nothing is left, and the reader gave nothing, once. No byte is wrong
 abbrev pub encoding_rules : {R W : Type 0} → (R → Option (List ℕ)) → (W → W → Type 0) → FilterRules (Encoding R W) RunError
@@ -38,7 +44,7 @@ encoding_rules remaining trace = record {
   spare = around;
   rounds = λ s. 0;
   flushes = λ s answer t. Flushes s.target.writer answer t.target.writer;
-  asks = λ s t. Asked (λ bytes. bytes ≡ []) s.source t.source × (s.source.log.reads.asks < t.source.log.reads.asks);
+  asks = λ s t. AsksBuffer s.source t.source;
   looks = λ s t. Unit {0};
   wants = λ s. 0;
   ends = λ s how t. MatchResult how

@@ -1,10 +1,12 @@
 -- What is given is handed out in order, and what is due is sent with it.
-use Rattle.std.proofs.Common.{◌≡◌, ℕ, inl, inr, List, [], ◌++◌, Option, Result, Ok, Err, refl, ◌∙◌, arith, append-nil, length-append}
+use Rattle.std.proofs.Common.{◌≡◌, ℕ, inl, inr, List, [], ◌++◌, Option, Result, Ok, Err, false, refl, ap, ◌∙◌, arith, append-nil, length-append}
 use Rattle.std.proofs.lemmas.List.Folds.{concat-append}
 use Rattle.std.specs.List.{concat, flat_map}
 use Rattle.buffer_redux.specs.ReaderLaws.{ReadsAlong-joins, ReadsAlong-none}
 use Rattle.chunked.specs.ChunkedWriterLaws.{ChunksWent-joins, ChunksWent-none}
-use Rattle.bodies.specs.Words.{Buffered, std_read_rules, StdPolicy, AsksSent, IsLawful, Moves, StaysOpen, AllSent, sent_all, taken_more, RunError, chunk}
+use Rattle.forward.specs.ForwardLaws.{Goes-leaves}
+use Rattle.forward.specs.Link.{Ask, Goes, Linked}
+use Rattle.bodies.specs.Words.{Buffered, std_read_rules, StdPolicy, AsksSent, IsLawful, Moves, OffersBuffer, StaysOpen, AllSent, sent_all, taken_more, RunError, chunk}
 use Rattle.bodies.specs.Encoding.{HandsReads, encoding_rules}
 use Rattle.bodies.specs.Filters.{Asked}
 use Rattle.bodies.specs.FiltersLaws.{asked_after}
@@ -58,5 +60,14 @@ module _ {R W : Type 0} (remaining : R → Option (List ℕ)) (trace : W → W �
     waits_lacks = λ s waits. waits;
     waits_fresh = λ s waits sent. (waits, sent.empty);
     taken_on = λ s t p taken. omega (arith, taken_more s.target.writer t.target.writer (flat_map chunk p) taken.went.in_order);
-    asks_sent = λ first s t p fresh moves still lacks sent asked. asks_sent first s t p fresh moves still sent asked.0;
+    asks_sent = λ first s t p fresh moves still lacks sent asked. asks_sent first s t p fresh moves still sent asked.asked;
   }
+
+  -- each ask was for a whole buffer
+  pub Goes-offers : {Such : Ask (Encoding R W) → Type 0} {more : ℕ} (s t : Linked (Encoding R W))
+      → Goes (encoding_rules remaining trace) Such more s t → OffersBuffer false 8192 s.filter.source.log t.filter.source.log
+  Goes-offers s t goes = elim (Goes-leaves (encoding_rules remaining trace) (λ log. log.reads.offer ≡ 8192)
+      (λ s t asks. inr asks.offer) s t goes) [
+        | inl same ↦ inl (ap (λ l. l.reads) same)
+        | inr all ↦ inr all
+      ]

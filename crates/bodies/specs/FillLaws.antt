@@ -1,13 +1,18 @@
--- Where a fill under `StdPolicy` asks the stream, and what it leaves.
+-- Where a fill under `StdPolicy` asks the stream, for how much, and what it leaves.
 use Rattle.std.proofs.Common.{◌≡◌, ℕ, zero, suc, ◌+◌, ◌<◌, ◌≤◌, inl, inr, List, [], ◌++◌, length, Result, Ok, Err, sym, ap, ◌∙◌, arith, append-nil, length-append}
 use Rattle.std.proofs.lemmas.Bool.{cases_lt}
 use Rattle.std.proofs.lemmas.Bool.Decides.{nat_tests}
 use Rattle.std.proofs.lemmas.List.{nil_from_length}
-use Rattle.buffer_redux.specs.Fill.{Turns}
+use Rattle.buffer_redux.specs.Block.{IsBlock, Kind, OnKind, Plain, Ring, usable}
+use Rattle.buffer_redux.specs.Fill.{Filled, Ordered, Turns}
 use Rattle.buffer_redux.specs.StreamLog.{after_read}
 use Rattle.buffer_redux.specs.Unbuffer.{unbuffered}
 use Rattle.buffer_redux.specs.Asking.{AskedWhere}
 use Rattle.bodies.specs.Words.{Error, Fills, ReadsInOrder, Buffered, std_read_rules, StdPolicy}
+
+all_usable : (k : Kind) (len room cap : ℕ) → OnKind k (len ≡ 0 → room ≡ cap) (len + room ≡ cap) → len ≡ 0 → room ≡ cap
+all_usable Plain len room cap space none = space none
+all_usable Ring len room cap space none = omega (arith, space, none)
 
 module _ {R : Type 0} where
   -- the stream was asked where nothing was buffered, and once
@@ -20,8 +25,8 @@ module _ {R : Type 0} where
   turns_asked (suc k) s t (m, run, count, some, turn) =
       omega (arith, turns_asked k s m run, ap (λ l. l.reads.asks) turn.read.told)
 
-  no_turn : (k : ℕ) (s t : Buffered R StdPolicy) → Turns std_read_rules k s t → k ≡ 0 → t.log ≡ s.log
-  no_turn zero s t same none = ap (λ x. x.log) (sym same)
+  no_turn : (k : ℕ) (s t : Buffered R StdPolicy) → Turns std_read_rules k s t → k ≡ 0 → t ≡ s
+  no_turn zero s t same none = sym same
   no_turn (suc k) s t run none = absurd (omega (arith, none))
 
   once : (s m t : Buffered R StdPolicy) (out : List ℕ) (answer : Result ℕ Error) → s.block.bytes ≡ [] → m.log ≡ s.log
@@ -36,26 +41,27 @@ module _ {R : Type 0} where
   })
 
   module _ {A : Type 0} (s t : Buffered R StdPolicy) where
+    still : (answer : Result A Error) (f : Filled std_read_rules s answer t) → t.log.reads.asks ≡ s.log.reads.asks
+        → t.log ≡ f.last.log → t.log ≡ s.log
+    still answer f same told = told ∙ ap (λ x. x.log) (no_turn f.count s f.last f.turns
+        (omega (arith, same, ap (λ l. l.reads.asks) told, turns_asked f.count s f.last f.turns)))
+
+    more_asks : (answer : Result A Error) (f : Filled std_read_rules s answer t) (end : Result ℕ Error)
+        → Ordered std_read_rules end f.last t → s.log.reads.asks < t.log.reads.asks
+    more_asks answer f end ask =
+        omega (arith, ap (λ l. l.reads.asks) ask.read.told, turns_asked f.count s f.last f.turns)
+
     unasked : (answer : Result A Error) → Fills std_read_rules s answer t → t.log.reads.asks ≡ s.log.reads.asks
         → t.log ≡ s.log
-    unasked (Ok a) fills same =
-        let f = fills.filled in
-        let asked = turns_asked f.count s f.last f.turns in
-        elim f.ends [
-          | inl declined ↦ declined.told
-              ∙ no_turn f.count s f.last f.turns (omega (arith, same, asked, ap (λ l. l.reads.asks) declined.told))
-          | inr (inl full) ↦ full.1.told
-              ∙ no_turn f.count s f.last f.turns (omega (arith, same, asked, ap (λ l. l.reads.asks) full.1.told))
-          | inr (inr end) ↦ absurd (omega (arith, same, asked, ap (λ l. l.reads.asks) end.read.told))
-        ]
-    unasked (Err e) fills same =
-        let f = fills.filled in
-        let asked = turns_asked f.count s f.last f.turns in
-        elim f.ends [
-          | inl refused ↦ refused.told
-              ∙ no_turn f.count s f.last f.turns (omega (arith, same, asked, ap (λ l. l.reads.asks) refused.told))
-          | inr faulted ↦ absurd (omega (arith, same, asked, ap (λ l. l.reads.asks) faulted.read.told))
-        ]
+    unasked (Ok a) fills same = elim fills.filled.ends [
+      | inl declined ↦ still (Ok a) fills.filled same declined.told
+      | inr (inl full) ↦ still (Ok a) fills.filled same full.1.told
+      | inr (inr end) ↦ absurd (omega (arith, same, more_asks (Ok a) fills.filled (Ok 0) end))
+    ]
+    unasked (Err e) fills same = elim fills.filled.ends [
+      | inl refused ↦ still (Err e) fills.filled same refused.told
+      | inr faulted ↦ absurd (omega (arith, same, more_asks (Err e) fills.filled (Err e) faulted))
+    ]
 
     pub fill_asks : (answer : Result A Error) → Fills std_read_rules s answer t
         → AsksEmpty s t × (t.log.reads.asks ≤ s.log.reads.asks + 1)
@@ -63,7 +69,7 @@ module _ {R : Type 0} where
       | inl more ↦
           let ask = fills.last more in
           let none : length ask.before.block.bytes ≡ 0 = grind (arith, nat_tests, ask.ordered.asked.allowed.2) in
-          let before = no_turn ask.count s ask.before ask.turns (omega (arith, ask.saw, none)) in
+          let before = ap (λ x. x.log) (no_turn ask.count s ask.before ask.turns (omega (arith, ask.saw, none))) in
           let told = ask.told ∙ ask.ordered.read.told in (
             once s ask.before t ask.ordered.read.out ask.answer (nil_from_length s.block.bytes (omega (arith, ask.saw, none)))
                 before told,
@@ -71,6 +77,16 @@ module _ {R : Type 0} where
           )
       | inr same ↦ (inl (unasked answer fills (omega (arith, same, fills.grows.asks))), omega (arith, same))
     ]
+
+    -- an empty buffer is asked for as a whole
+    pub fill_offers : (answer : Result A Error) → Fills std_read_rules s answer t → IsBlock s.block → s.block.bytes ≡ []
+        → s.log.reads.asks < t.log.reads.asks → t.log.reads.offer ≡ s.block.capacity
+    fill_offers answer fills whole empty more =
+        let ask = fills.last more in
+        let none : length ask.before.block.bytes ≡ 0 = grind (arith, nat_tests, ask.ordered.asked.allowed.2) in
+        ask.offer ∙ ap usable ask.ordered.asked.allowed.1
+        ∙ ap (λ x. usable x.block) (no_turn ask.count s ask.before ask.turns (omega (arith, ask.saw, none)))
+        ∙ all_usable s.block.kind (length s.block.bytes) (usable s.block) s.block.capacity whole.space (ap length empty)
 
   -- where some bytes are left, of none that were buffered, some came for each ask
   pub some_came : (s t : Buffered R StdPolicy) → ReadsInOrder s [] t → 0 < length t.block.bytes → AsksEmpty s t

@@ -18,6 +18,6 @@ pub use Rattle.forward.specs.Filter.{AskAnswers, AsksSent, FilterAsks, FilterFlu
 pub use Rattle.forward.specs.Prompt.{AskedLast, AsksGiveOrFail, RunsPromptly, WritesOn}
 pub use Rattle.forward.specs.Streams.{FaultsOften, FewFaults, WriteGaveUp}
 pub use Rattle.forward.specs.Target.{failure_count}
-pub use Rattle.programs.specs.Streams.{AllSent, GaveNothing, MetNoFault, OverCount, ReadFailed, ReceivedFlushed, RefusedBeforeCalls}
+pub use Rattle.programs.specs.Streams.{AllSent, GaveNothing, MetNoFault, OffersBuffer, OverCount, ReadFailed, ReceivedFlushed, RefusedBeforeCalls}
 pub use Rattle.programs.specs.TakenIn.{TakesAll, sent_all, taken_more, target_of}
 pub use Rattle.std.specs.declared.io.Error.{Error}

@@ -1,6 +1,7 @@
 //! The payload of a body copied, over any two streams that tell.
-ghost use Rattle.std.specs.Prelude.{◌≡◌, ℕ, ◌<◌, List, [], ◌++◌, OnOk, vec_len};
+ghost use Rattle.std.specs.Prelude.{◌≡◌, ℕ, List, [], ◌++◌, OnOk, vec_len};
 ghost use Rattle.chunked.specs.Body.{IsBodyOfChunks};
+ghost use Rattle.programs.specs.Streams.{IsEmptyBuffer};
 ghost use Rattle.bodies.specs.Decode.{DecodesBody};
 ghost use Rattle.bodies.specs.Decoding.{IsPieceTarget};
 
@@ -50,8 +51,7 @@ fn decode_all<R: TellRead, W: TellWrite>(
     target: BufWriter<W>,
     piece: Vec<u8>,
 ) -> (Result<(), RunError>, BufReader<R>, BufWriter<W>)
-    requires capacity { 0 < source.block.capacity }
-    requires source { source.block.bytes ≡ [] }
+    requires source { IsEmptyBuffer PIECE source.block }
     requires target { IsPieceTarget target }
     requires empty { target.block.bytes ≡ [] }
     requires room { vec_len piece ≡ PIECE }

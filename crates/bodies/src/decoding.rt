@@ -1,9 +1,9 @@
 //! The payload of a body as it goes over, piece by piece.
-ghost use Rattle.std.specs.Prelude.{◌≡◌, ◌≤◌, length, take};
+ghost use Rattle.std.specs.Prelude.{◌≡◌, ◌≤◌, ◌⊎◌, length, take};
 ghost use Rattle.buffer_redux.specs.Policy.{std_read_rules};
 ghost use Rattle.body_reader.specs.BodyReader.{BodyWent, IsBodyReader};
 ghost use Rattle.chunked.specs.Coding.{chunked};
-ghost use Rattle.bodies.specs.Decoding.{HoldsPiece, LooksOn, MayDecode, NoneBuffered, ask_error, decoding_rules, fault_behind};
+ghost use Rattle.bodies.specs.Decoding.{HoldsPiece, LooksOn, MayDecode, NoneBuffered, ask_error, decoding_rules};
 ghost use Rattle.bodies.specs.DecodingLaws.{decoding_lawful};
 
 use crate::error::RunError;
@@ -89,7 +89,7 @@ fn read_held<R: TellRead>(source: &mut ChunkedReader<R>, piece: &mut [u8]) -> us
         source.new }
     ensures told { source.new.reader.log ≡ source.old.reader.log }
     ensures bound { result ≤ length piece.new }
-    ensures all { result ≡ 0 → NoneBuffered source.new }
+    ensures all { (result ≡ HELD) ⊎ NoneBuffered source.new }
     ensures whole { IsBodyReader (chunked source.new.coding.0) source.new }
 {
     source.read_buffered(&mut piece[..HELD])
@@ -106,19 +106,7 @@ fn ask_behind<R: TellRead>(
     match source.is_at_end() {
         Ok(true) => Ok(false),
         Ok(false) => Err(AskError::Wrong(RunError::Behind(source.taken()))),
-        Err(e) => Err(fault(e, came)),
-    }
-}
-
-// The stream failed, behind bytes that came or none.
-#[inline(always)]
-fn fault(e: io::Error, came: bool) -> AskError<RunError>
-    ensures { result ≡ fault_behind came e }
-{
-    if came {
-        AskError::IoBehind(e)
-    } else {
-        AskError::Io(e)
+        Err(e) => Err(AskError::of_fault(e, came)),
     }
 }
 
@@ -130,6 +118,6 @@ fn ask_error(e: ChunkedError, came: bool) -> AskError<RunError>
     match e {
         ChunkedError::Wrong(why, right) => AskError::Wrong(RunError::NotChunked(why, right)),
         ChunkedError::Truncated(right) => AskError::Wrong(RunError::Truncated(right)),
-        ChunkedError::Io(e) => fault(e, came),
+        ChunkedError::Io(e) => AskError::of_fault(e, came),
     }
 }

@@ -1,5 +1,5 @@
 //! What is given made the payload of a body, over any two streams that tell.
-ghost use Rattle.std.specs.Prelude.{◌≡◌, ℕ, ◌+◌, ◌≤◌, List, ◌++◌, OnOk};
+ghost use Rattle.std.specs.Prelude.{◌≡◌, ℕ, ◌+◌, List, [], ◌++◌, OnOk};
 ghost use Rattle.chunked.specs.ChunkedWriter.{around};
 ghost use Rattle.programs.specs.Streams.{IsEmptyBuffer};
 ghost use Rattle.bodies.specs.Encode.{Encodes, EndsBody, IsEncodedBody};
@@ -18,7 +18,7 @@ use std::io::Write;
 const PIECE: usize = 8192;
 
 /// Makes all that `reader` gives the payload of one body, which `writer` receives, and flushes it. What one read gave is one
-/// chunk; where it gives nothing at once, the body is the last chunk alone.
+/// chunk, and each read asks for 8192 bytes; where it gives nothing at once, the body is the last chunk alone.
 ///
 /// Nothing is held back: where the reader is asked, all that it gave was sent in chunks and flushed.
 /// Both streams come back, also after a fault. Nothing more is sent then, so the body that `writer` received has no end, unless
@@ -47,9 +47,9 @@ fn encode_all<R: TellRead, W: TellWrite>(
     source: BufReader<R>,
     target: BufWriter<W>,
 ) -> (Result<(), RunError>, BufReader<R>, BufWriter<W>)
-    requires source { IsEmptyBuffer 1 source.block }
-    requires target { IsEmptyBuffer (around + 1) target.block }
-    requires fits { around + source.block.capacity ≤ target.block.capacity }
+    requires empty { source.block.bytes ≡ [] }
+    requires capacity { source.block.capacity ≡ PIECE }
+    requires target { IsEmptyBuffer (around + PIECE) target.block }
     ensures read_room { result.1.block.capacity ≡ source.block.capacity }
     ensures write_room { result.2.block.capacity ≡ target.block.capacity }
     ensures encodes { Encodes source.log result.1.log target.log result.2.log result.0 }

@@ -38,6 +38,8 @@ impl<R: TellRead, W: TellWrite> Filter for Encoding<R, W> {
 
     #[inline(always)]
     fn ask(&mut self) -> Result<bool, AskError<RunError>> {
+        // Says that the reader is whole.
+        let _ = self.source.buffer();
         match self.source.fill_buf() {
             Ok(came) => Ok(!came.is_empty()),
             Err(e) => Err(AskError::Io(e)),

@@ -4,6 +4,7 @@ use Rattle.std.specs.Option.{option_map_or}
 use Rattle.std.specs.Result.{result_err}
 use Rattle.std.proofs.lemmas.List.{nil_from_length}
 use Rattle.std.proofs.lemmas.List.Elements.{All-head, All-tail}
+use Rattle.redux_buffer.specs.StreamLog.{StreamLog}
 use Rattle.forward.specs.Filter.{FilterRules, Moves}
 use Rattle.forward.specs.Forward.{Forwarded, ForwardedFirst, Forwards, StopsBy, flushed_last}
 use Rattle.forward.specs.Link.{Ask, AskedBefore, AsksAlong, Goes, IsPrompt, IsTurn, Linked}
@@ -83,6 +84,24 @@ module _ {T W : Type 0} (rules : FilterRules T W) where
     turns_counted goes.turns.turns goes.turns.each,
     ap length goes.turns.equal,
   )
+
+  -- what each ask leaves of the stream's log, where it asks, is so in the end, where it was asked
+  module _ (Leaves : StreamLog → Type 0)
+      (each : (s t : T) → rules.asks s t → (rules.read t ≡ rules.read s) ⊎ Leaves (rules.read t)) where
+    leaves_along : (s t : T) (asks : List (Ask T)) → AsksAlong rules s asks t
+        → (rules.read t ≡ rules.read s) ⊎ Leaves (rules.read t)
+    leaves_along s t [] along = inl along.told
+    leaves_along s t (ask ∷ asks) along = elim (leaves_along ask.after t asks along.2) [
+      | inl same ↦ elim (each ask.before ask.after along.1.asks) [
+        | inl still ↦ inl (same ∙ still ∙ along.0.told)
+        | inr such ↦ inr (subst Leaves (sym same) such)
+      ]
+      | inr such ↦ inr such
+    ]
+
+    pub Goes-leaves : {Such : Ask T → Type 0} {more : ℕ} (s t : Linked T) → Goes rules Such more s t
+        → (rules.read t.filter ≡ rules.read s.filter) ⊎ Leaves (rules.read t.filter)
+    Goes-leaves s t goes = leaves_along s.filter t.filter goes.asks goes.along
 
   -- an ask of the filter's asks the stream, or leaves its log as it is
   abbrev pub CountsAsks : Type 0

@@ -1,4 +1,6 @@
 //! Why an ask found no payload, and why forwarding stopped.
+ghost use Rattle.std.specs.Prelude.{◌≡◌, if◌then◌else◌};
+
 use std::error::Error;
 use std::{fmt, io};
 
@@ -11,6 +13,20 @@ pub enum AskError<W> {
     Io(io::Error),
     /// The stream gave bytes, and then it failed.
     IoBehind(io::Error),
+}
+
+impl<W> AskError<W> {
+    /// Why an ask found none in which the stream failed, behind bytes that it gave in that or none.
+    #[inline(always)]
+    pub fn of_fault(e: io::Error, came: bool) -> AskError<W>
+        ensures { result ≡ (if came then AskError.IoBehind e else AskError.Io e) }
+    {
+        if came {
+            AskError::IoBehind(e)
+        } else {
+            AskError::Io(e)
+        }
+    }
 }
 
 /// Which side stopped, and why.

@@ -17,9 +17,9 @@ pub forward-answer-requires-clause-ready : goal.forward-answer-requires-clause-r
 forward-answer-requires-clause-ready g c =
     let a = c.args in
     rw (c.new-link.ensures, c.new.ensures.begun) (record {
-      capacity = c.requires.capacity;
+      capacity = omega (arith, c.requires.source.capacity);
       whole = begun-is (chunked a.limits) (chunked_lawful a.limits) a.source (record { 0 = a.limits })
-          (omega (arith, c.requires.capacity));
+          (omega (arith, c.requires.source.capacity));
       target = c.requires.target;
       room = sym a.piece.ok.0 ∙ c.requires.room;
       held = omega arith;
@@ -44,10 +44,10 @@ returns g c =
       decodes = record {
         ran = elim c.match-answer.branch [
           | in-Ok w ↦ subst (DecodeRan a.limits a.source.log t.source.reader.log a.target.log t.target.log) (sym w.answer-is)
-              (ended remaining a.limits a.source a.target a.piece c.requires.source c.requires.empty t over.ready _
+              (ended remaining a.limits a.source a.target a.piece c.requires.source.bytes c.requires.empty t over.ready _
               (subst (λ x. ForwardAnswers rules first x t) w.in-Ok.is over.answers))
           | in-Err w ↦ subst (DecodeRan a.limits a.source.log t.source.reader.log a.target.log t.target.log) (sym w.answer-is)
-              (stopped remaining a.limits a.source a.target a.piece c.requires.source c.requires.empty t over.ready _ _ _
+              (stopped remaining a.limits a.source a.target a.piece c.requires.source.bytes c.requires.empty t over.ready _ _ _
               (subst (λ x. ForwardAnswers rules first x t) w.in-Err.is over.answers) w.error_of.ensures)
         ];
         promptly = rw failed

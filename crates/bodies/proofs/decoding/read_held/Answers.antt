@@ -5,18 +5,17 @@ use Rattle.bodies.proofs.DecodingCalls.{shown_none}
 use Rattle.bodies.proofs.decoding.read_held.Goals as goal
 
 pub returns-clause-all : goal.returns-clause-all
-returns-clause-all g c = λ none.
+returns-clause-all g c =
     let hands = c.read_buffered.ensures.reads in
     elim hands.all [
-      | inl all ↦ absurd (omega (
+      | inl all ↦ inl (omega (
         arith,
-        none,
         all,
         c.requires,
         c.read_buffered.auto.out,
         length-take-le 8191 c.args.piece.now (omega (arith, c.requires)),
       ))
-      | inr why ↦ shown_none c.args.source.now c.read_buffered.new.self hands.went.coding hands.whole why
+      | inr why ↦ inr (shown_none c.args.source.now c.read_buffered.new.self hands.went.coding hands.whole why)
     ]
 
 pub returns-clause-whole : goal.returns-clause-whole

@@ -4,6 +4,7 @@ use Rattle.forward.specs.ForwardLaws.{Forwards-moves, Goes-holds, Goes-per_ask, 
 use Rattle.forward.specs.PromptLaws.{HoldsNothingBack-on}
 use Rattle.bodies.specs.Encode.{IsDue}
 use Rattle.bodies.specs.Encoding.{encoding_rules}
+use Rattle.bodies.specs.EncodingLaws.{Goes-offers}
 use Rattle.bodies.proofs.EncodeRuns.{ended, stopped}
 use Rattle.bodies.proofs.encode.encode_all.Goals as goal
 
@@ -15,14 +16,15 @@ returns-in-Ok g c =
     let answers = over.answers in
     let moves = answers.0.moves in
     let end = rw c.into_inner-source.ensures at c.end-answer.ensures in
-    let before = Goes-per_ask rules _ t over.goes (λ s t asked. asked.1) in
+    let before = Goes-per_ask rules _ t over.goes (λ s t asked. asked.some) in
     rw c.into_inner-source.ensures (record {
       read_room = moves.hands.room;
       write_room = end.room ∙ moves.takes.went.capacity;
       encodes = record {
-        ran = ended g.R.TellRead.remaining g.W.TellWrite.trace c.args.source c.args.target c.requires.source.bytes
+        ran = ended g.R.TellRead.remaining g.W.TellWrite.trace c.args.source c.args.target c.requires.empty
             c.requires.target.bytes t.filter _ answers.0 answers.1.0 answers.3 c.end-answer.result.1 answers.1.1
             c.end-answer.result.0 end;
+        offers = Goes-offers g.R.TellRead.remaining g.W.TellWrite.trace _ t over.goes;
         promptly = record {
           prompt = HoldsNothingBack-on IsDue c.args.source.log _ _ c.args.target.log _ _ (Goes-holds rules _ t over.goes)
               refl end.writes;
@@ -40,13 +42,14 @@ returns-in-Err g c =
     let t = c.forward-answer.new.link in
     let over = rw (c.new-link.ensures, c.new.ensures.begun) at c.in-Err.ensures.forwards in
     let moves = (Forwards-moves rules _ t _ over).2 in
-    let before = Goes-per_ask rules _ t over.goes (λ s t asked. asked.1) in
+    let before = Goes-per_ask rules _ t over.goes (λ s t asked. asked.some) in
     rw (c.into_inner.ensures, c.into_inner-source.ensures) (record {
       read_room = moves.hands.room;
       write_room = moves.takes.went.capacity;
       encodes = record {
-        ran = stopped g.R.TellRead.remaining g.W.TellWrite.trace c.args.source c.args.target c.requires.source.bytes
+        ran = stopped g.R.TellRead.remaining g.W.TellWrite.trace c.args.source c.args.target c.requires.empty
             c.requires.target.bytes t.filter _ _ _ over.answers c.error_of.ensures;
+        offers = Goes-offers g.R.TellRead.remaining g.W.TellWrite.trace _ t over.goes;
         promptly = record {
           prompt = Goes-holds rules _ t over.goes;
           once = over.once;
