@@ -28,7 +28,7 @@ module _ {T W : Type 0} (rules : FilterRules T W) where
     pub told : rules.read t ≡ rules.read s
     pub writes : WritesOn (rules.target s).log.writes (rules.target t).log.writes
 
-  -- the stream was asked, and nothing was written
+  -- an ask of the filter's, which let the writer be
   pub record IsAsk (ask : Ask T) : Type 0 where
     pub asks : rules.asks ask.before ask.after
     pub told : rules.target ask.after ≡ rules.target ask.before

@@ -21,7 +21,7 @@ pub trait Filter {
         requires { rules.ready self.old }
         ensures { FilterPasses rules self.old result self.new };
 
-    /// Sends and flushes all that was taken in.
+    /// Sends and flushes all that was taken in. The stream's own flush isn't made again where it was interrupted.
     fn flush(&mut self) -> io::Result<()>
         requires { rules.ready self.old }
         ensures { FilterFlushes rules self.old result self.new };
