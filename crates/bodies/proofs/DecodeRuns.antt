@@ -69,27 +69,29 @@ module _ {R W : Type 0} (remaining : R → Option (List ℕ)) (limits : Limits) 
         ∙ ap (λ l. l ++ held_payload t)
         (over.moves.takes.in_order.equal ∙ ap (λ l. l ++ concat over.payloads) none') ∙ sym parted
 
-    abbrev part : IsDue limits t.source.taken payload
-    part = record {
+    -- the payload in what was taken, by other names of it
+    abbrev part : (bytes : List ℕ) → bytes ≡ payload → IsDue limits t.source.taken bytes
+    part bytes same = record {
       place = t.source.place;
-      part = record {
+      part = subst (λ l. IsBodyPart limits t.source.taken l t.source.place) (sym same) (record {
         leads = rw (over.moves.hands.went.coding, over.moves.hands.went.handed) at ready.whole.leads;
         is_place = ready.whole.place;
-      };
+      });
     }
 
+    is_body : (bytes : List ℕ) → bytes ≡ payload → TookWholeBody (chunked t.source.coding.0) t.source
+        → IsBodyOfChunks limits t.source.taken bytes
+    is_body bytes same whole = subst (IsBodyOfChunks limits t.source.taken) (sym same)
+        (rw (over.moves.hands.went.coding, over.moves.hands.went.handed) at whole)
+
     abbrev due : IsDue limits t.source.taken (moved.sent ++ moved.unsent)
-    due = record {
-      place = t.source.place;
-      part = subst (λ l. IsBodyPart limits t.source.taken l t.source.place) (sym parts) part.part;
-    }
+    due = part (moved.sent ++ moved.unsent) parts
 
     -- where no payload is buffered, none follows
     none_left : NoneBuffered t.source → IsBodyOfChunks limits t.source.taken (moved.sent ++ moved.unsent)
         ⊎ ((t.source.reader.block.bytes ≡ [])
         ⊎ ((why : Malformed) × BreaksAt limits t.source.place t.source.taken t.source.reader.block.bytes why))
-    none_left (inl whole) = inl (subst (IsBodyOfChunks limits t.source.taken) (sym parts)
-        (rw (over.moves.hands.went.coding, over.moves.hands.went.handed) at whole))
+    none_left (inl whole) = inl (is_body (moved.sent ++ moved.unsent) parts whole)
     none_left (inr (inl left)) = inr (inl left)
     none_left (inr (inr (why, breaks))) = inr (inr (why, rw over.moves.hands.went.coding at breaks))
 
@@ -113,18 +115,14 @@ module _ {R W : Type 0} (remaining : R → Option (List ℕ)) (limits : Limits) 
         flushed = sent.flushed;
       }
 
-      all_sent : payload ≡ moved.sent
-      all_sent = sym parts ∙ ap (λ l. moved.sent ++ l) moved_all.all ∙ append-nil moved.sent
-
-      is_body : TookWholeBody (chunked t.source.coding.0) t.source → IsBodyOfChunks limits t.source.taken moved.sent
-      is_body whole = subst (IsBodyOfChunks limits t.source.taken) all_sent
-          (rw (over.moves.hands.went.coding, over.moves.hands.went.handed) at whole)
+      all_sent : moved.sent ≡ payload
+      all_sent = sym (append-nil moved.sent) ∙ ap (λ l. moved.sent ++ l) (sym moved_all.all) ∙ parts
 
       abbrev part_sent : IsDue limits t.source.taken moved.sent
-      part_sent = record {
-        place = t.source.place;
-        part = subst (λ l. IsBodyPart limits t.source.taken l t.source.place) all_sent part.part;
-      }
+      part_sent = part moved.sent all_sent
+
+      sent_body : TookWholeBody (chunked t.source.coding.0) t.source → IsBodyOfChunks limits t.source.taken moved.sent
+      sent_body = is_body moved.sent all_sent
 
       -- what comes next is wrong, or missing, or more than the body
       wrong : (why : RunError) → PayloadEnds begin.source (Err why) t.source
@@ -133,13 +131,13 @@ module _ {R W : Type 0} (remaining : R → Option (List ℕ)) (limits : Limits) 
           (moved_all, part_sent, rw over.moves.hands.went.coding at breaks, count, met)
       wrong (Truncated right) (none, left, dry, count) met =
           (moved_all, part_sent, rw over.moves.hands.went.coding at none, left, dry, count, met)
-      wrong (Behind right) (whole, some, count) met = (moved_all, is_body whole, some, count, met)
+      wrong (Behind right) (whole, some, count) met = (moved_all, sent_body whole, some, count, met)
       wrong other end met = absurd end
 
   -- all went over
   pub ended : (count : ℕ) → ForwardAnswers rules begin (Ok count) t → Ran (Ok tt)
   ended count (over, (held, (whole, left, dry)), sent, met) =
-      (moved_all count over held sent, is_body count over held sent whole, left, dry, met)
+      (moved_all count over held sent, sent_body count over held sent whole, left, dry, met)
 
   -- the run was stopped
   pub stopped : (count : ℕ) (why : Cause RunError) (e : RunError) → StopsBy rules count begin why t → IsErrorOf why e

@@ -24,7 +24,7 @@ use Rattle.forward.specs.declared.error.AskError.TheVariants as ask
 use Rattle.forward.specs.Filter.{FailedToRead}
 use Rattle.forward.specs.Target.{bytes_taken}
 use Rattle.programs.specs.TargetLaws.{TakesAll-not_passed, TakesAll-passed, WasFlushed-sent, WasFlushed-writes}
-use Rattle.bodies.specs.Words.{Error, WasFlushed, Buffered, std_read_rules, StreamLog, StdPolicy, BodyWent, IsBodyOfChunks, IsBodyReader, TakesAll, TookWholeBody, LooksBehind, ReadsPayload, chunked, handed_of, taken_count, AskAnswers, FilterAsks, FilterFlushes, FilterRules, NeverGaveNothing, FilterPasses, StaysOpen, taken_more, target_of, WritesInOrder, RunError}
+use Rattle.bodies.specs.Words.{Error, WasFlushed, Buffered, std_read_rules, StreamLog, StdPolicy, BodyWent, IsBodyOfChunks, IsBodyReader, TakesAll, TookWholeBody, LooksBehind, ReadsPayload, chunked, handed_of, taken_count, AskAnswers, FilterAsks, FilterFlushes, FilterRules, FilterPasses, StaysOpen, taken_more, target_of, WritesInOrder, RunError}
 use Rattle.bodies.specs.Decode.{IsDue}
 use Rattle.bodies.specs.Decoding.{ChunkedState, HandsPayloadPieces, HoldsPiece, MayDecode, NoneBuffered, TakesPayload, ask_error, decoding_rules, end_answer, held_payload, most_wanted}
 use Rattle.bodies.specs.Decoding as Source
@@ -68,6 +68,18 @@ shown_none s d same is (inr (inl early)) =
 shown_none s d same is (inr (inr (why, breaks))) =
     let is = subst (λ c. IsBodyReader (chunked c.0) d) (sym same) is in
     inr (inr (why, breaks_at d is why (rw same breaks.name)))
+
+-- behind calls of the writer, with so much held
+writer_ready : {R W : Type 0} (u : Decoding R W) → MayDecode u → (v : Buffered W StdPolicy)
+    → v.block.kind ≡ u.target.block.kind → v.block.capacity ≡ u.target.block.capacity → (n : ℕ) → n ≤ 16384
+    → MayDecode (record u { target = v; held = n })
+writer_ready u ready v kind same n most = record {
+  capacity = ready.capacity;
+  whole = ready.whole;
+  target = record { plain = kind ∙ ready.target.plain; capacity = omega (arith, same, ready.target.capacity) };
+  room = ready.room;
+  held = most;
+}
 
 module _ {R W : Type 0} (remaining : R → Option (List ℕ)) (s : Decoding R W) (ready : MayDecode s) where
   abbrev rules : FilterRules (Decoding R W) RunError
@@ -121,15 +133,6 @@ module _ {R W : Type 0} (remaining : R → Option (List ℕ)) (s : Decoding R W)
   -- a piece is held
   module _ (u : Decoding R W) (held : HoldsPiece remaining s u) (v : Buffered W StdPolicy)
       (kind : v.block.kind ≡ u.target.block.kind) (same : v.block.capacity ≡ u.target.block.capacity) where
-    ready_with : (n : ℕ) → n ≤ 16384 → MayDecode (record u { target = v; held = n })
-    ready_with n most = record {
-      capacity = held.ready.capacity;
-      whole = held.ready.whole;
-      target = record { plain = kind ∙ held.ready.target.plain; capacity = omega (arith, same, held.ready.target.capacity) };
-      room = held.ready.room;
-      held = most;
-    }
-
     abbrev piece : List ℕ
     piece = held_payload u
 
@@ -146,7 +149,7 @@ module _ {R W : Type 0} (remaining : R → Option (List ℕ)) (s : Decoding R W)
     pub not_written : (e : Error) → Takes (Err e) → FilterPasses rules s (Err e) (record u { target = v })
     not_written e takes = record {
       told = held.told;
-      ready = ready_with u.held held.ready.held;
+      ready = writer_ready u held.ready v kind same u.held held.ready.held;
       closed = λ closed. closed;
       wrote = rw held.still at (TakesAll-not_passed u.target v 0 0 {Other = λ _. ⊥} takes same (λ no. no));
       answers = (
@@ -166,7 +169,7 @@ module _ {R W : Type 0} (remaining : R → Option (List ℕ)) (s : Decoding R W)
         let all : length (piece ++ []) ≡ length piece = ap length (append-nil piece) in
         record {
           told = held.told;
-          ready = ready_with 0 (omega arith);
+          ready = writer_ready u held.ready v kind same 0 (omega arith);
           closed = λ closed. closed;
           wrote = rw held.still at (TakesAll-passed u.target v 0 0 {Other = λ _. ⊥} takes (omega (arith, all))
               (omega (arith, all, long)) (λ _. same) (omega (arith, same)));
@@ -197,13 +200,7 @@ module _ {R W : Type 0} (remaining : R → Option (List ℕ)) (s : Decoding R W)
         → FilterFlushes rules s answer (record s { target = v })
     flushes_all answer f = record {
       told = refl;
-      ready = record {
-        capacity = ready.capacity;
-        whole = ready.whole;
-        target = record { plain = f.kind ∙ ready.target.plain; capacity = omega (arith, f.capacity, ready.target.capacity) };
-        room = ready.room;
-        held = ready.held;
-      };
+      ready = writer_ready s ready v f.kind f.capacity s.held ready.held;
       closed = λ closed. closed;
       wrote = WasFlushed-writes s.target v f;
       steps = f.steps;
@@ -253,11 +250,6 @@ module _ {R W : Type 0} (remaining : R → Option (List ℕ)) (s : Decoding R W)
     abbrev Such : List ℕ → Type 0
     Such bytes = IsDue s.source.coding.0 (s.source.taken ++ bytes) (handed_of s.source)
 
-    -- each ask gave a byte, as far as faults are counted
-    gives_on : (t : ChunkedState R) (n : ℕ) → EachGave s.source.reader t.reader → NeverGaveNothing rules s (asked t n)
-    gives_on t n gave =
-        record { zero_reads = gave.zero_reads; give = omega (arith, gave.asks, ap length gave.faults) }
-
     module _ (answer : Result ℕ (BodyError Malformed))
         (p : ReadsPayload remaining std_read_rules (chunked s.source.coding.0) s.source out answer m) where
       over : Source.AsksPromptly s.source m
@@ -281,7 +273,7 @@ module _ {R W : Type 0} (remaining : R → Option (List ℕ)) (s : Decoding R W)
         (omega (arith, gave.zero_reads)) (Ok true) (
           some,
           gave.faults,
-          inl (gives_on m n gave),
+          inl (record { zero_reads = gave.zero_reads; give = omega (arith, gave.asks, ap length gave.faults) }),
           asked_stream remaining s.source m ready.whole out n p some lacks,
         )
 

@@ -19,7 +19,7 @@ use Rattle.forward.specs.declared.error.AskError.{AskError}
 use Rattle.forward.specs.PromptLaws.{WritesOn-joins}
 use Rattle.programs.specs.TargetLaws.{SendRow, TakesAll-not_passed, TakesAll-passed, TakesAll-row, WasFlushed-sent, WasFlushed-writes, WritesOn-unflushed, unsent_row}
 use Rattle.bodies.specs.Words.{around, AskAnswers, FilterAsks, body_end, Buffered, chunk, ChunkedWriterState, ChunksWent, Error, failure_count, FaultsOften, Fills, FilterRules, FilterFlushes, IsChunkedWriter, IsInterrupt, line_end, MetInterrupts, MetInterrupts-joins, FilterPasses, PutsIn, ReadsAlong, room, RunError, SendErrorCaused-after, SendsFirst, size_digits, std_read_rules, StdPolicy, StreamLog, TakesAll, taken_more, WasFlushed, WritesChunk, WritesInOrder, AllSent, SendErrorCaused}
-use Rattle.bodies.specs.Encode.{EndsBody}
+use Rattle.bodies.specs.Encode.{EndAnswers, EndsBody}
 use Rattle.bodies.specs.Encoding.{encoding_rules, MayEncode}
 use Rattle.bodies.specs.EncodingLaws.{HandsReads-none}
 use Rattle.bodies.specs.FillLaws.{fill_asks, fill_leaves, fill_offers, some_came}
@@ -118,12 +118,7 @@ module _ {W : Type 0} (tells : W → StreamLog) (trace : W → W → Type 0) whe
     ]
 
     ends : (answer : Result (Unit {0}) Error) → WasFlushed tells trace m answer v → (said : Result (Unit {0}) RunError)
-        → failure_count answer ≡ failure_count said
-        → MatchResult said (λ _. (body_end [] ≡ body_end []) × AllSent v × MetInterrupts u.log.writes v.log.writes)
-        (λ why. ((body_end [] ≡ body_end []) ⊎ (body_end [] ≡ []))
-        × ((e : Error) × (why ≡ Write e) × SendErrorCaused u.log.writes v.log.writes e
-        × (IsInterrupt e → FaultsOften u.log.writes v.log.writes ⊎ ((v.block.bytes ≡ []) × (body_end [] ≡ body_end [])))))
-        → EndsBody u said v
+        → failure_count answer ≡ failure_count said → EndAnswers u (body_end []) said v → EndsBody u said v
     ends answer f said same_count answers =
         let flush = WasFlushed-writes m v f in
         let writes = WritesOn-joins u.log.writes m.log.writes v.log.writes
@@ -174,11 +169,21 @@ module _ {W : Type 0} (tells : W → StreamLog) (trace : W → W → Type 0) whe
       ),
     )
 
-module _ {R W : Type 0} (remaining : R → Option (List ℕ)) (tells : W → StreamLog) (trace : W → W → Type 0)
-    (none : (x : W) → trace x x) (joins : (a b c : W) → trace a b → trace b c → trace a c) (s : Encoding R W)
+module _ {R W : Type 0} (remaining : R → Option (List ℕ)) (tells : W → StreamLog) (trace : W → W → Type 0) (s : Encoding R W)
     (ready : MayEncode s) where
   abbrev rules : FilterRules (Encoding R W) RunError
   rules = encoding_rules remaining trace
+
+  -- behind calls of both sides
+  ready_on : (t : Buffered R StdPolicy) → t.block.capacity ≡ s.source.block.capacity → (payloads : List (List ℕ))
+      → (c : ChunkedWriterState W) → ChunksWent trace s.target payloads c → IsChunkedWriter c
+      → MayEncode (record s { source = t; target = c })
+  ready_on t same payloads c chunks whole = record {
+    capacity = same ∙ ready.capacity;
+    fits = omega (arith, ready.fits, chunks.went.capacity);
+    between = chunks.due ∙ ready.between;
+    whole = whole;
+  }
 
   -- what is buffered is made a chunk
   module _ (some : 0 < length s.source.block.bytes) (held : IsBlock s.source.block) (c : ChunkedWriterState W) where
@@ -191,12 +196,7 @@ module _ {R W : Type 0} (remaining : R → Option (List ℕ)) (tells : W → Str
         let chunks = p.chunks ready.between small in
         record {
           told = refl;
-          ready = record {
-            capacity = ready.capacity;
-            fits = omega (arith, ready.fits, chunks.went.capacity);
-            between = chunks.due ∙ ready.between;
-            whole = p.whole;
-          };
+          ready = ready_on s.source refl _ c chunks p.whole;
           closed = λ closed. closed;
           wrote = TakesAll-not_passed s.target.writer c.writer around 0
               (chunk_takes tells trace s.target c s.source.block.bytes some ready.between small (Err e) p) chunks.went.capacity
@@ -225,12 +225,7 @@ module _ {R W : Type 0} (remaining : R → Option (List ℕ)) (tells : W → Str
         ) in
         record {
           told = told;
-          ready = record {
-            capacity = same ∙ ready.capacity;
-            fits = omega (arith, ready.fits, chunks.went.capacity);
-            between = chunks.due ∙ ready.between;
-            whole = p.whole;
-          };
+          ready = ready_on t same _ c chunks p.whole;
           closed = λ closed. closed;
           wrote = TakesAll-passed s.target.writer c.writer around 0 takes bytes (omega (arith, bytes, some))
               (λ _. chunks.went.capacity) (omega (arith, chunks.went.capacity));
@@ -268,12 +263,7 @@ module _ {R W : Type 0} (remaining : R → Option (List ℕ)) (tells : W → Str
         → FilterFlushes rules s answer (record s { target = c })
     flushes_all answer f = record {
       told = refl;
-      ready = record {
-        capacity = ready.capacity;
-        fits = omega (arith, ready.fits, went.went.capacity);
-        between = went.due ∙ ready.between;
-        whole = whole;
-      };
+      ready = ready_on s.source refl [] c went whole;
       closed = λ closed. closed;
       wrote = WasFlushed-writes s.target.writer c.writer f;
       steps = f.steps;
@@ -284,7 +274,8 @@ module _ {R W : Type 0} (remaining : R → Option (List ℕ)) (tells : W → Str
     }
 
   -- more is asked for
-  module _ (lacks : s.source.block.bytes ≡ []) (held : IsBlock s.source.block) (t : Buffered R StdPolicy)
+  module _ (none : (x : W) → trace x x) (joins : (a b c : W) → trace a b → trace b c → trace a c)
+      (lacks : s.source.block.bytes ≡ []) (held : IsBlock s.source.block) (t : Buffered R StdPolicy)
       (along : ReadsAlong remaining std_read_rules s.source [] t) where
     abbrev after : Encoding R W
     after = record s { source = t }
@@ -297,24 +288,20 @@ module _ {R W : Type 0} (remaining : R → Option (List ℕ)) (tells : W → Str
         → (answer : Result Bool (AskError RunError)) → AskAnswers rules s answer after → FilterAsks rules s answer after
     empty_asked filled fills told each quiet answer answers =
         let same = fill_capacity s.source t filled fills in
+        let takes = ChunksWent-none trace none joins s.target in
         let asked = fill_asked s.source t filled fills in
         let some : s.source.log.reads.asks < t.log.reads.asks =
         elim asked.asked [ inl same ↦ absurd (told same) | inr over ↦ over.some ] in
         record {
           told = refl;
-          ready = record {
-            capacity = same ∙ ready.capacity;
-            fits = ready.fits;
-            between = ready.between;
-            whole = ready.whole;
-          };
+          ready = ready_on t same [] s.target takes ready.whole;
           moves = record {
             hands = record {
               along = along;
               each = omega (arith, each, some, (fill_asks s.source t filled fills).1, ap length lacks);
               room = same;
             };
-            takes = ChunksWent-none trace none joins s.target;
+            takes = takes;
           };
           sent = λ sent. sent;
           asks = record { asked = asked; some = some; offer = fill_offers s.source t filled fills held lacks some ∙ ready.capacity };

@@ -11,15 +11,20 @@ use Rattle.bodies.specs.declared.error.RunError.TheVariants.{Read, Write, Io}
 abbrev pub IsDue : List ℕ → List ℕ → Type 0
 IsDue bytes due = IsChunks due bytes
 
--- what ending a body does, by the bytes that were taken in behind its chunks: at Ok its end, which was sent and flushed
+-- what an answer says of ending a body, behind whose chunks these bytes were taken in: at Ok its end, which was sent and flushed
+abbrev pub EndAnswers : {W : Type 0} → Buffered W StdPolicy → List ℕ → Result (Unit {0}) RunError → Buffered W StdPolicy → Type 0
+EndAnswers u end answer v = MatchResult answer
+    (λ _. (end ≡ body_end []) × AllSent v × MetInterrupts u.log.writes v.log.writes)
+    (λ why. ((end ≡ body_end []) ⊎ (end ≡ []))
+    × ((e : Error) × (why ≡ Write e) × SendErrorCaused u.log.writes v.log.writes e
+    × (IsInterrupt e → FaultsOften u.log.writes v.log.writes ⊎ ((v.block.bytes ≡ []) × (end ≡ body_end [])))))
+
+-- what ending a body does
 pub record EndsBody {W : Type 0} (u : Buffered W StdPolicy) (answer : Result (Unit {0}) RunError) (v : Buffered W StdPolicy)
     : Type 0 where
   pub end : List ℕ
   pub taken : WritesInOrder u end v
-  pub answers : MatchResult answer (λ _. (end ≡ body_end []) × AllSent v × MetInterrupts u.log.writes v.log.writes)
-      (λ why. ((end ≡ body_end []) ⊎ (end ≡ []))
-      × ((e : Error) × (why ≡ Write e) × SendErrorCaused u.log.writes v.log.writes e
-      × (IsInterrupt e → FaultsOften u.log.writes v.log.writes ⊎ ((v.block.bytes ≡ []) × (end ≡ body_end [])))))
+  pub answers : EndAnswers u end answer v
   pub room : v.block.capacity ≡ u.block.capacity
   pub writes : WritesOn u.log.writes v.log.writes
   pub few : FewFaults (failure_count answer) u.log.writes v.log.writes
