@@ -1,5 +1,5 @@
 -- What a chunk, and the end of a body, do to the writer; and what the calls of a filter of chunks do.
-use Rattle.std.proofs.Common.{MatchResult, ◌⊎◌, ◌≡◌, ℕ, ◌+◌, ◌<◌, ◌≤◌, inl, inr, List, [], length, min, length-take-le, take, Result, Ok, Err, OnErr, refl, subst, sym, ap, ◌∙◌, arith, length-append, zero, suc, ◌==◌, not, Bool, ◌∷◌, ◌++◌, true, false, Option, append-nil}
+use Rattle.std.proofs.Common.{◌⊎◌, ◌≡◌, ℕ, ◌+◌, ◌<◌, ◌≤◌, inl, inr, List, [], length, min, length-take-le, take, Result, Ok, Err, OnErr, refl, subst, sym, ap, ◌∙◌, arith, length-append, zero, suc, ◌==◌, not, Bool, ◌∷◌, ◌++◌, true, false, Option, append-nil}
 use Rattle.std.proofs.lemmas.Bool.{cases_lt}
 use Rattle.std.proofs.lemmas.Bool.Decides.{nat_tests}
 use Rattle.std.proofs.lemmas.List.{nil_from_length}
@@ -18,7 +18,7 @@ use Rattle.forward.specs.declared.error.AskError.TheVariants.{Io}
 use Rattle.forward.specs.declared.error.AskError.{AskError}
 use Rattle.forward.specs.PromptLaws.{WritesOn-joins}
 use Rattle.programs.specs.TargetLaws.{SendRow, TakesAll-not_passed, TakesAll-passed, TakesAll-row, WasFlushed-sent, WasFlushed-writes, WritesOn-unflushed, unsent_row}
-use Rattle.bodies.specs.Words.{around, AskAnswers, FilterAsks, body_end, Buffered, chunk, ChunkedWriterState, ChunksWent, Error, failure_count, FaultsOften, Fills, FilterRules, FilterFlushes, IsChunkedWriter, IsInterrupt, line_end, MetInterrupts, MetInterrupts-joins, FilterPasses, PutsIn, ReadsAlong, room, RunError, SendErrorCaused-after, SendsFirst, size_digits, std_read_rules, StdPolicy, StreamLog, TakesAll, taken_more, WasFlushed, WritesChunk, WritesInOrder, AllSent, SendErrorCaused}
+use Rattle.bodies.specs.Words.{around, AskAnswers, FilterAsks, body_end, Buffered, chunk, ChunkedWriterState, ChunksWent, Error, failure_count, Fills, FilterRules, FilterFlushes, IsChunkedWriter, line_end, MetInterrupts-joins, FilterPasses, PutsIn, ReadsAlong, room, RunError, SendErrorCaused-after, SendsFirst, size_digits, std_read_rules, StdPolicy, StreamLog, TakesAll, taken_more, WasFlushed, WritesChunk, WritesInOrder}
 use Rattle.bodies.specs.Encode.{EndAnswers, EndsBody}
 use Rattle.bodies.specs.Encoding.{encoding_rules, MayEncode}
 use Rattle.bodies.specs.EncodingLaws.{HandsReads-none}

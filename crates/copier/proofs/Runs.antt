@@ -1,5 +1,6 @@
 -- What a copy between buffers that were empty says of the streams inside, by how it ended.
-use Rattle.std.proofs.Common.{◌≡◌, ◌∙◌, ◌<◌, ◌⊎◌, inl, inr, ℕ, List, length, Option, Result, Ok, Err, IfOk, IfErr, MatchResult, IsErrAnd, rules, sym, arith}
+use Rattle.std.proofs.Common.{◌≡◌, ◌∙◌, ◌<◌, ◌⊎◌, inl, inr, ℕ, Bool, List, length, Option, Some, Result, Ok, Err, IfOk, IfErr, MatchResult, IsErrAnd, ap, rules, sym, arith}
+use Rattle.std.specs.Prelude.{unwrap_or}
 use Rattle.std.specs.IoError.{error_kind}
 use Rattle.std.specs.declared.io.Error.{Error}
 use Rattle.std.specs.declared.io.ErrorKind.TheVariants.{WriteZero}
@@ -120,6 +121,10 @@ module _ {R W : Type 0} (remaining : R → Option (List ℕ)) (tells : W → Str
         offers = offers_all went whole;
         sends = came.3;
       }
+
+-- what words ask for they ask for alone
+pub one_asked : (x y : Bool × ℕ) → Some y ≡ Some x → (x.0 ≡ y.0) × (x.1 ≡ y.1)
+one_asked x y told = (sym (ap (λ o. (unwrap_or o x).0) told), sym (ap (λ o. (unwrap_or o x).1) told))
 
 -- by the answer
 pub went_so : (P : ℕ → Type 0) (Q : Error → Type 0) (answer : Result ℕ Error) → IfOk answer P → IfErr answer Q

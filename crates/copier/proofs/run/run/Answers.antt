@@ -8,49 +8,34 @@ returns-in-Err-clause-a_beginning g c =
     let refused = c.in-Err.ensures.refused in
     rw (refused.read_same, refused.written_same) (IsBeginning-none _ _)
 
-pub returns-clause-a_beginning : goal.returns-clause-a_beginning
-returns-clause-a_beginning g c =
+pub returns : goal.returns
+returns g c =
+    let made = c.in-Ok.ensures in
+    let copy = c.copy_all-answer.ensures in
     rw (
       c.into_inner_with_buffer-reader.ensures.log,
       c.into_inner_with_buffer-writer.ensures.log,
-      ← c.in-Ok.ensures.read,
-      ← c.in-Ok.ensures.written,
+      ← made.read,
+      ← made.written,
     )
-    c.copy_all-answer.ensures.a_beginning
-
-pub returns-clause-stopped : goal.returns-clause-stopped
-returns-clause-stopped g c =
-    rw (
-      c.into_inner_with_buffer-reader.ensures.log,
-      c.into_inner_with_buffer-writer.ensures.log,
-      ← c.in-Ok.ensures.read,
-      ← c.in-Ok.ensures.written,
-    )
-    c.copy_all-answer.ensures.stopped
-
-pub returns-clause-through : goal.returns-clause-through
-returns-clause-through g c =
-    let made = c.in-Ok.ensures in inl (record {
-      source = _;
-      source' = _;
-      target = _;
-      target' = _;
-      source_made = made.source;
-      target_made = made.target;
-      reads = (made.reader, made.read);
-      writes = (made.writer, made.written);
-      copies = c.copy_all-answer.ensures.all;
-      reader_left = (sym c.into_inner_with_buffer-reader.ensures.inner, sym c.into_inner_with_buffer-reader.ensures.log);
-      writer_left = (sym c.into_inner_with_buffer-writer.ensures.inner, sym c.into_inner_with_buffer-writer.ensures.log);
+    (record {
+      a_beginning = copy.a_beginning;
+      copied = copy.copied;
+      stopped = copy.stopped;
+      once = copy.once;
+      through = inl (record {
+        source = _;
+        source' = _;
+        target = _;
+        target' = _;
+        source_made = made.source;
+        target_made = made.target;
+        reads = (made.reader, made.read);
+        writes = (made.writer, made.written);
+        copies = copy.all;
+        reader_left = (sym c.into_inner_with_buffer-reader.ensures.inner, sym c.into_inner_with_buffer-reader.ensures.log);
+        writer_left = (sym c.into_inner_with_buffer-writer.ensures.inner, sym c.into_inner_with_buffer-writer.ensures.log);
+      });
+      offers = rw (← made.source.capacity) copy.offers;
+      sends = rw (← made.target.capacity) copy.sends;
     })
-
-pub returns-clause-sends : goal.returns-clause-sends
-returns-clause-sends g c =
-    rw (
-      c.into_inner_with_buffer-reader.ensures.log,
-      c.into_inner_with_buffer-writer.ensures.log,
-      ← c.in-Ok.ensures.read,
-      ← c.in-Ok.ensures.written,
-      ← c.in-Ok.ensures.target.capacity,
-    )
-    c.copy_all-answer.ensures.sends

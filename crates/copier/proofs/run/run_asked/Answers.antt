@@ -1,7 +1,6 @@
 -- Words ask for one buffer and one capacity at most, within range, and no run that began ends as `Usage`.
-use Rattle.std.specs.Prelude.{unwrap_or}
-use Rattle.std.proofs.Common.{◌≡◌, ℕ, Bool, inl, inr, ap, refl, sym}
-use Rattle.copier.proofs.Runs.{never_usage, went_so}
+use Rattle.std.proofs.Common.{inl, inr, refl}
+use Rattle.copier.proofs.Runs.{never_usage, one_asked, went_so}
 use Rattle.copier.proofs.Moving.{IsBeginning-none}
 use Rattle.copier.proofs.SettingsFacts.{asked_in_range}
 use Rattle.copier.proofs.run.run_asked.Goals as goal
@@ -30,10 +29,8 @@ returns-in_default-clause-ran g c = λ ring cap asks. absurd (let told = (c.sett
 
 pub returns-clause-ran : goal.returns-clause-ran
 returns-clause-ran g c = λ ring cap asks.
-    let told = (c.in-Some.ensures ring cap).1 asks in
-    let ring_is : ring ≡ c.in-Some.ring = sym (ap (λ o. (unwrap_or {T = Bool × ℕ} o (ring, cap)).0) told) in
-    let cap_is : cap ≡ c.in-Some.cap = sym (ap (λ o. (unwrap_or {T = Bool × ℕ} o (ring, cap)).1) told) in
-    rw (ring_is, cap_is) (
+    let is = one_asked (ring, cap) (c.in-Some.ring, c.in-Some.cap) ((c.in-Some.ensures ring cap).1 asks) in
+    rw (is.0, is.1) (
       c.run-answer.result.0,
       c.of.ensures,
       went_so _ _ c.run-answer.result.0 c.run-answer.ensures.copied c.run-answer.ensures.stopped,
@@ -42,17 +39,13 @@ returns-clause-ran g c = λ ring cap asks.
 
 pub returns-clause-offers : goal.returns-clause-offers
 returns-clause-offers g c = λ ring cap asks.
-    let told = (c.in-Some.ensures ring cap).1 asks in
-    let ring_is : ring ≡ c.in-Some.ring = sym (ap (λ o. (unwrap_or {T = Bool × ℕ} o (ring, cap)).0) told) in
-    let cap_is : cap ≡ c.in-Some.cap = sym (ap (λ o. (unwrap_or {T = Bool × ℕ} o (ring, cap)).1) told) in
-    rw (ring_is, cap_is) c.run-answer.ensures.offers
+    let is = one_asked (ring, cap) (c.in-Some.ring, c.in-Some.cap) ((c.in-Some.ensures ring cap).1 asks) in
+    rw (is.0, is.1) c.run-answer.ensures.offers
 
 pub returns-clause-sends : goal.returns-clause-sends
 returns-clause-sends g c = λ ring cap asks.
-    let told = (c.in-Some.ensures ring cap).1 asks in
-    let ring_is : ring ≡ c.in-Some.ring = sym (ap (λ o. (unwrap_or {T = Bool × ℕ} o (ring, cap)).0) told) in
-    let cap_is : cap ≡ c.in-Some.cap = sym (ap (λ o. (unwrap_or {T = Bool × ℕ} o (ring, cap)).1) told) in
-    rw (ring_is, cap_is) c.run-answer.ensures.sends
+    let is = one_asked (ring, cap) (c.in-Some.ring, c.in-Some.cap) ((c.in-Some.ensures ring cap).1 asks) in
+    rw (is.0, is.1) c.run-answer.ensures.sends
 
 pub returns-clause-usage : goal.returns-clause-usage
 returns-clause-usage g c = inr (
