@@ -14,8 +14,8 @@ use Rattle.body_reader.specs.declared.coding.Look.TheVariants.{Payload}
 use Rattle.body_reader.specs.declared.error.BodyError.{BodyError}
 use Rattle.body_reader.specs.declared.error.BodyError.TheVariants.{Truncated, Io}
 use Rattle.body_reader.specs.declared.progress.Progress.{Progress}
-use Rattle.body_reader.specs.Between.{AllShown, Proceeds, Settles, ShowsOn, SkipsOn, TakenThrough, TakesBytes}
-use Rattle.body_reader.specs.BetweenLaws.{EachGave-none, EachGave-once, TakesBytes-still, Way-none}
+use Rattle.body_reader.specs.Between.{AllShown, PassesOn, Proceeds, Settles, ShowsOn, SkipsOn, TakenThrough, TakesBytes}
+use Rattle.body_reader.specs.BetweenLaws.{EachGave-none, EachGave-once, EachGave-same, PassesOn-way, Proceeds-after, TakesBytes-still, Way-none}
 use Rattle.body_reader.specs.Coding.{Carries, Grammar, IsDone, IsLawful, IsNextPayload, Looks}
 use Rattle.body_reader.proofs.Once.{once_dry, once_fails, once_way}
 
@@ -189,6 +189,12 @@ module _ {S Q P W : Type 0} (remaining : S → Option (List ℕ)) (rules : ReadR
             ),
           ),
         )
+
+  -- what was passed first belongs to it
+  pub fill_after : {slice : ℕ} {s m t : Buffered S Q} {p q r : Progress P} → PassesOn remaining rules g s p m q
+      → (answer : Result ℕ (BodyError W)) → ShowsOn remaining rules g slice m q answer t r
+      → ShowsOn remaining rules g slice s p answer t r
+  fill_after {m = m} passes answer = Proceeds-after (PassesOn-way passes) (EachGave-same _ m passes.told) answer _
 
   -- the body ended
   pub fill_ended : (slice : ℕ) (s : Buffered S Q) (p : Progress P) (m : Buffered S Q) (q : Progress P)

@@ -5,11 +5,10 @@ use Rattle.std.proofs.lemmas.List.{append_cancel_left, length-drop, length-take-
 use Rattle.buffer_redux.specs.Buffered.{Buffered}
 use Rattle.buffer_redux.specs.BufReader.{ReaderConsumes, ReaderKeeps}
 use Rattle.buffer_redux.specs.Policy.{ReadRules}
-use Rattle.body_reader.specs.declared.coding.Look.{Look}
 use Rattle.body_reader.specs.declared.error.BodyError.{BodyError}
 use Rattle.body_reader.specs.declared.progress.Progress.{Progress}
-use Rattle.body_reader.specs.Between.{AllShown, EachGave, HandsOn, KnowsAll, PassesOn, PayloadFails, SkipsOn, TakesBytes, TakesFront, Way, handed_out}
-use Rattle.body_reader.specs.BetweenLaws.{EachGave-none, EachGave-same, PassesTo-none, PassesOn-way, Proceeds-after, Way-none}
+use Rattle.body_reader.specs.Between.{AllShown, EachGave, HandsOn, KnowsAll, PayloadFails, SkipsOn, TakesBytes, TakesFront, Way, handed_out}
+use Rattle.body_reader.specs.BetweenLaws.{EachGave-none, EachGave-same, PassesTo-none, Proceeds-after, Way-none}
 use Rattle.body_reader.specs.Coding.{Carries, Grammar, IsDone, IsKnown, Leads, heeded}
 use Rattle.body_reader.specs.CodingLaws.{Leads-none, Leads-then}
 use Rattle.body_reader.proofs.Filling.{Proceeds-of, ended_here}
@@ -141,10 +140,10 @@ module _ {S Q P W : Type 0} (remaining : S → Option (List ℕ)) (rules : ReadR
     long : length (take n out) ≡ n
     long = length-take-le n out (omega (arith, is))
 
-    hands_these : (before : ℕ)
-        → (before ≡ 0 → KnowsAll g p.place p.taken.log.fills.consumed q.taken.log.fills.consumed [] (take n out) k' t.block.bytes)
+    -- as much as was known before, or as a look says
+    pub hands_front : g.is_place p.place → (before : ℕ) → (before ≡ 0 → AllShown g p.place k s.block.bytes)
         → HandsOn remaining rules g before s p out (Ok n) t q k'
-    hands_these before knows = (
+    hands_front place before all = (
       (
         record {
           wire = take n s.block.bytes;
@@ -168,30 +167,15 @@ module _ {S Q P W : Type 0} (remaining : S → Option (List ℕ)) (rules : ReadR
             omega (arith, is),
             (λ none _. absurd (omega (arith, none, is, some, room))),
             full,
-            (λ unknown _. knows unknown),
+            (λ unknown _. subst (λ l. KnowsAll g p.place p.taken.log.fills.consumed q.taken.log.fills.consumed [] l k'
+                t.block.bytes) (sym same)
+                (knows_rest place (all unknown) taken.takes.taken
+                (consumes_parts rules n s t (omega (arith, is, known.0)) taken.consumed) (omega (arith, is)) known.0 taken.left)),
           ),
         ),
       ),
       λ none. absurd (omega (arith, none, room)),
     )
-
-    -- it was known before
-    pub hands_known : HandsOn remaining rules g k s p out (Ok n) t q k'
-    hands_known = hands_these k (λ unknown. absurd (omega (arith, unknown, some)))
-
-    -- or is as much as a look says
-    knows : g.is_place p.place → AllShown g p.place k s.block.bytes
-        → KnowsAll g p.place p.taken.log.fills.consumed q.taken.log.fills.consumed [] (take n out) k' t.block.bytes
-    knows place all =
-        let before = p.taken.log.fills.consumed in
-        let after = q.taken.log.fills.consumed in
-        subst (λ l. KnowsAll g p.place before after [] l k' t.block.bytes) (sym same)
-        (knows_rest place all taken.takes.taken
-        (consumes_parts rules n s t (omega (arith, is, known.0)) taken.consumed) (omega (arith, is)) known.0 taken.left)
-
-    pub hands_shown : g.is_place p.place → AllShown g p.place k s.block.bytes → (before : ℕ)
-        → HandsOn remaining rules g before s p out (Ok n) t q k'
-    hands_shown place all before = hands_these before (λ _. knows place all)
 
   -- into an empty slice nothing is
   pub hands_nothing : (known : ℕ) (s : Buffered S Q) (p : Progress P) (out : List ℕ) → g.is_place p.place → length out ≡ 0
@@ -252,12 +236,6 @@ module _ {S Q P W : Type 0} (remaining : S → Option (List ℕ)) (rules : ReadR
           )) hands.0),
       never,
     )
-
-    pub hands_passed : (l : Look P W) → PassesOn remaining rules g s p l m q → (answer : Result ℕ (BodyError W))
-        → (t : Buffered S Q) (r : Progress P) → HandsOn remaining rules g known m q out answer t r after
-        → HandsOn remaining rules g known s p out answer t r after
-    hands_passed l passes =
-        hands_after (PassesOn-way passes) (EachGave-same s m passes.told)
 
     pub hands_ended : after ≡ 0 → SkipsOn remaining rules g (length out) s p (Ok 0) m q
         → HandsOn remaining rules g known s p out (Ok 0) m q after

@@ -1,5 +1,5 @@
 -- Payload that is buffered is handed out, and nobody is asked.
-use Rattle.std.proofs.Common.{◌≡◌, ◌≢◌, ℕ, zero, suc, ◌+◌, ◌-◌, ◌<◌, ◌≤◌, ◌⊎◌, List, [], ◌++◌, length, min, take, drop, Option, sym, ap, subst, ◌∙◌, arith, inl, inr, refl, append-nil, length-append}
+use Rattle.std.proofs.Common.{◌≡◌, ℕ, zero, suc, ◌+◌, ◌-◌, ◌<◌, ◌≤◌, ◌⊎◌, List, [], ◌++◌, length, min, take, drop, Option, None, Some, sym, ap, subst, ◌∙◌, arith, inl, inr, refl, append-nil, length-append}
 use Rattle.std.proofs.Math.Seq.{take-append-add}
 use Rattle.std.proofs.lemmas.List.{drop_all, length-drop, length-take-le}
 use Rattle.buffer_redux.specs.Buffered.{Buffered}
@@ -9,7 +9,7 @@ use Rattle.buffer_redux.specs.StreamLog.{StreamLog}
 use Rattle.body_reader.specs.declared.coding.Look.{Look}
 use Rattle.body_reader.specs.declared.coding.Look.TheVariants as look
 use Rattle.body_reader.specs.declared.progress.Progress.{Progress}
-use Rattle.body_reader.specs.Between.{AllShown, FindsKnown, HandsPiece, HandsManyPieces, HandsShown, KnowsAll, KnowsBehind, NoneShown, PassesOn, TakesBytes, TakesFront}
+use Rattle.body_reader.specs.Between.{AllShown, FindsKnown, HandsPiece, HandsManyPieces, HandsShown, KnowsAll, LooksNext, KnowsBehind, NoneShown, PassesOn, TakesBytes, TakesFront}
 use Rattle.body_reader.specs.BetweenLaws.{PassesTo-none, TakesBytes-joins, TakesBytes-none}
 use Rattle.body_reader.specs.BodyReader.{Breaks, EndsEarly, HandsBuffered, IsBodyReader, NotedIfSome, TookWholeBody, seen}
 use Rattle.body_reader.specs.BodyReaderLaws.{NotedIfSome-given}
@@ -18,7 +18,7 @@ use Rattle.body_reader.specs.CodingLaws.{IsOpenBelow-open, Leads-done, Leads-who
 use Rattle.body_reader.proofs.Filling.{Carries-fewer, all_shown}
 use Rattle.body_reader.proofs.Handing.{knows_behind, knows_rest}
 use Rattle.body_reader.proofs.Payload.{breaks_so, early, state_is, state_went}
-use Rattle.body_reader.proofs.Skipping.{consumes_parts}
+use Rattle.body_reader.proofs.Skipping.{consumes_parts, passed_none}
 use borrow.Rule.Slice.PartMut.{put_mid}
 
 -- a slice of which the rest was written
@@ -34,64 +34,50 @@ zero_unless (suc n) none = absurd (none (omega arith))
 module _ {S Q P W : Type 0} (remaining : S → Option (List ℕ)) (rules : ReadRules Q) (g : Grammar P W) where
   -- some is known
   pub known_found : (s : Buffered S Q) (p : Progress P) (k : ℕ) → g.is_place p.place → IsKnown g p.place k s.block.bytes → 0 < k
-      → FindsKnown remaining rules g s p k s p k
+      → FindsKnown remaining rules g s p k None s p k
   known_found s p k place known some = record {
-    wire = [];
-    takes = TakesBytes-none place;
-    told = refl;
-    passes = PassesTo-none;
+    passes = passed_none remaining rules g s p place;
     known = known;
     kept = λ _. (refl, refl);
-    idle = λ _. (refl, refl, refl);
     all = λ unknown. absurd (omega (arith, unknown, some));
-    none = λ none. absurd (omega (arith, none, some));
+    none = some;
   }
 
-  module _ (lawful : IsLawful g) (s : Buffered S Q) (p : Progress P) (before : ℕ) (unknown : before ≡ 0) (l : Look P W)
-      (t : Buffered S Q) (q : Progress P) (passes : PassesOn remaining rules g s p l t q) where
-    found : (k : ℕ) → IsKnown g q.place k t.block.bytes → (0 < k → AllShown g q.place k t.block.bytes)
-        → (k ≡ 0 → NoneShown remaining rules g q.place t.block.bytes) → (IsDone g q.place → k ≡ 0)
-        → FindsKnown remaining rules g s p before t q k
-    found k known all none ended = record {
-      wire = passes.wire;
-      takes = passes.takes;
-      told = passes.told;
-      passes = passes.passes;
-      known = known;
-      kept = λ some. absurd (omega (arith, some, unknown));
-      idle = λ done.
-          let at = passes.idle done in
-          (at.0, at.1, omega (arith, unknown, ended (subst (λ x. IsDone g x.place) (sym at.1) done)));
-      all = λ _. all;
-      none = none;
-    }
-
+  module _ (s : Buffered S Q) (p : Progress P) (before : ℕ) (unknown : before ≡ 0) (l : Look P W) (t : Buffered S Q)
+      (q : Progress P) (passes : PassesOn remaining rules g s p t q) (next : LooksNext g q.place t.block.bytes l) where
     -- payload comes next
-    pub payload_found : (sure : ℕ) → l ≡ look.Payload sure → (k : ℕ) → k ≡ min sure (length t.block.bytes)
-        → FindsKnown remaining rules g s p before t q k
-    payload_found sure is k count =
-        let looks : Looks g q.place t.block.bytes (look.Payload sure) = subst (Looks g q.place t.block.bytes) is passes.looks in
-        let carries = looks.0 in
-        found k (
-          omega (arith, count),
-          (λ some. Carries-fewer g q.place sure k t.block.bytes carries some (omega (arith, count))),
-        ) (λ _. all_shown remaining rules g q.place t.block.bytes sure k (looks.0, looks.1, looks.2) count)
-        (λ none. inr (inl (open_at g lawful q.place passes.takes.place carries.goes_on t.block.bytes
-        (omega (arith, none, count, carries.some))))) (λ done. absurd (carries.goes_on done))
+    pub payload_found : (sure : ℕ) → l ≡ look.Payload sure → 0 < length t.block.bytes → (k : ℕ)
+        → k ≡ min sure (length t.block.bytes) → FindsKnown remaining rules g s p before None t q k
+    payload_found sure is held k count =
+        let looks : Looks g q.place t.block.bytes (look.Payload sure) = subst (Looks g q.place t.block.bytes) is next.0 in
+        let some : 0 < k = omega (arith, looks.0.some, held, count) in
+        record {
+          passes = passes;
+          known = (omega (arith, count), λ _. Carries-fewer g q.place sure k t.block.bytes looks.0 some (omega (arith, count)));
+          kept = λ some. absurd (omega (arith, some, unknown));
+          all = λ _ _. all_shown remaining rules g q.place t.block.bytes sure k (looks.0, looks.1, looks.2) count;
+          none = some;
+        }
 
-    -- or none does
-    none_so : (m : Look P W) → Looks g q.place t.block.bytes m → ((n : ℕ) (r : P) → m ≢ look.Passed n r)
-        → ((n : ℕ) → m ≢ look.Payload n) → NoneShown remaining rules g q.place t.block.bytes
-    none_so (look.Payload n) looks no_more never = absurd (never n refl)
-    none_so (look.Passed n r) looks no_more never = absurd (no_more n r refl)
-    none_so (look.More n) looks no_more never = inr (inl (IsOpenBelow-open g q.place n t.block.bytes looks.0))
-    none_so (look.Wrong why) looks no_more never = inr (inr (why, looks.0))
-    none_so look.Ended looks no_more never = inl looks
+    -- or none that is buffered does
+    none_so : IsLawful g → (m : Look P W) → LooksNext g q.place t.block.bytes m
+        → ((n : ℕ) → m ≡ look.Payload n → length t.block.bytes < 1) → NoneShown remaining rules g q.place t.block.bytes
+    none_so lawful (look.Payload n) looks empty =
+        inr (inl (open_at g lawful q.place passes.takes.place looks.0.0.goes_on t.block.bytes (empty n refl)))
+    none_so lawful (look.Passed n r) looks empty = absurd (looks.1 n r refl)
+    none_so lawful (look.More n) looks empty = inr (inl (IsOpenBelow-open g q.place n t.block.bytes looks.0.0))
+    none_so lawful (look.Wrong why) looks empty = inr (inr (why, looks.0.0))
+    none_so lawful look.Ended looks empty = inl looks.0
 
-    pub none_found : ((n : ℕ) → l ≢ look.Payload n) → (k : ℕ) → k ≡ 0
-        → FindsKnown remaining rules g s p before t q k
-    none_found never k none = found k (omega (arith, none), λ some. absurd (omega (arith, some, none)))
-        (λ some. absurd (omega (arith, some, none))) (λ _. none_so l passes.looks passes.no_more never) (λ _. none)
+    pub none_found : IsLawful g → ((n : ℕ) → l ≡ look.Payload n → length t.block.bytes < 1) → (k : ℕ) → k ≡ 0
+        → FindsKnown remaining rules g s p before (Some l) t q k
+    none_found lawful empty k none = record {
+      passes = passes;
+      known = (omega (arith, none), λ some. absurd (omega (arith, some, none)));
+      kept = λ some. absurd (omega (arith, some, unknown));
+      all = λ _ some. absurd (omega (arith, some, none));
+      none = (unknown, none, next, none_so lawful l next empty);
+    }
 
   -- so much was handed out so far
   pub record Shown (s : Buffered S Q) (p : Progress P) (before : ℕ) (out : List ℕ) (handed : ℕ) (m : Buffered S Q)
@@ -154,28 +140,29 @@ module _ {S Q P W : Type 0} (remaining : S → Option (List ℕ)) (rules : ReadR
           all = inl all;
         }
 
-    module _ (room : handed < length out) (f : Buffered S Q) (r : Progress P) (k' : ℕ)
-        (finds : FindsKnown remaining rules g m q k f r k') where
+    module _ (room : handed < length out) (next : Option (Look P W)) (f : Buffered S Q) (r : Progress P) (k' : ℕ)
+        (finds : FindsKnown remaining rules g m q k next f r k') where
       -- what was known stays so
       kept : 0 < k → k' ≡ k
       kept some = (finds.kept some).1
 
-      found_on : TakesBytes remaining rules g s p (so.wire ++ finds.wire) (take handed out) f r
-      found_on = subst (λ l. TakesBytes remaining rules g s p (so.wire ++ finds.wire) l f r) (append-nil (take handed out))
-          (TakesBytes-joins so.takes finds.takes)
+      found_on : TakesBytes remaining rules g s p (so.wire ++ finds.passes.wire) (take handed out) f r
+      found_on = subst (λ l. TakesBytes remaining rules g s p (so.wire ++ finds.passes.wire) l f r) (append-nil (take handed out))
+          (TakesBytes-joins so.takes finds.passes.takes)
 
-      pub none_shown : k' ≡ 0 → HandsShown remaining rules g s p before out handed f r k'
-      none_shown none = let nothing : k ≡ 0 = zero_unless k (λ some. omega (arith, some, kept some, none)) in record {
-        wire = so.wire ++ finds.wire;
+      pub none_shown : k ≡ 0 → k' ≡ 0 → NoneShown remaining rules g r.place f.block.bytes
+          → HandsShown remaining rules g s p before out handed f r k'
+      none_shown nothing none there = record {
+        wire = so.wire ++ finds.passes.wire;
         takes = found_on;
-        told = finds.told ∙ so.told;
+        told = finds.passes.told ∙ so.told;
         pieces = record {
           count = so.pieces.0;
           last = m;
           place = q.place;
           pieces = subst (HandsManyPieces remaining rules g so.pieces.0 s p.place before handed m q.place)
               (omega (arith, nothing, none)) so.pieces.1;
-          passes = finds.passes;
+          passes = finds.passes.passes;
         };
         within = so.within;
         known = finds.known;
@@ -185,12 +172,12 @@ module _ {S Q P W : Type 0} (remaining : S → Option (List ℕ)) (rules : ReadR
         idle = λ either. elim either [
           | inl done ↦
               let first = so.idle (inl done) in
-              let then = finds.idle (subst (λ x. IsDone g x.place) (sym first.2) done) in
-              (first.0, then.0 ∙ first.1, then.1 ∙ first.2, then.2 ∙ first.3)
+              let then = finds.passes.idle (subst (λ x. IsDone g x.place) (sym first.2) done) in
+              (first.0, then.0 ∙ first.1, then.1 ∙ first.2, omega (arith, none, nothing, first.3))
           | inr empty ↦ absurd (omega (arith, room, empty))
         ];
         full = inr none;
-        all = inr (finds.none none);
+        all = inr there;
       }
 
       -- where the body ended none is found
@@ -198,7 +185,7 @@ module _ {S Q P W : Type 0} (remaining : S → Option (List ℕ)) (rules : ReadR
       goes_on some done =
           let first = so.idle (inl done) in
           let here = subst (λ x. IsDone g x.place) (sym first.2) done in
-          (finds.known.1 some).goes_on (subst (λ x. IsDone g x.place) (sym (finds.idle here).1) here)
+          (finds.known.1 some).goes_on (subst (λ x. IsDone g x.place) (sym (finds.passes.idle here).1) here)
 
       -- the policy is told of it once
       piece : (n : ℕ) (t : Buffered S Q) (u : Progress P) (k'' : ℕ) → 0 < n → n ≤ k'
@@ -209,7 +196,7 @@ module _ {S Q P W : Type 0} (remaining : S → Option (List ℕ)) (rules : ReadR
             some = some;
             front = f;
             place = r.place;
-            passes = finds.passes;
+            passes = finds.passes.passes;
             consumed = front.consumed;
             leads = front.takes.leads;
             known = λ more. let same = finds.kept more in (same.0, omega (arith, all, same.1));
@@ -232,10 +219,10 @@ module _ {S Q P W : Type 0} (remaining : S → Option (List ℕ)) (rules : ReadR
           ∙ ap (λ l. take handed out ++ l) same in
           let here = piece n t u k'' some (omega (arith, count)) front in
           record {
-            wire = (so.wire ++ finds.wire) ++ take n f.block.bytes;
-            takes = subst (λ l. TakesBytes remaining rules g s p ((so.wire ++ finds.wire) ++ take n f.block.bytes) l t u)
+            wire = (so.wire ++ finds.passes.wire) ++ take n f.block.bytes;
+            takes = subst (λ l. TakesBytes remaining rules g s p ((so.wire ++ finds.passes.wire) ++ take n f.block.bytes) l t u)
                 (sym joined) (TakesBytes-joins found_on front.takes);
-            told = front.consumed.told ∙ finds.told ∙ so.told;
+            told = front.consumed.told ∙ finds.passes.told ∙ so.told;
             pieces = (
               suc so.pieces.0,
               (handed, n, k, m, q.place, so.pieces.1, here, last, refl),
@@ -259,7 +246,7 @@ module _ {S Q P W : Type 0} (remaining : S → Option (List ℕ)) (rules : ReadR
                   joined,
                   subst (λ l. KnowsAll g p.place p.taken.log.fills.consumed u.taken.log.fills.consumed l (take n f.block.bytes)
                       k'' t.block.bytes) (append-nil (take handed out))
-                      (knows_behind found_on front.takes (knows_rest finds.takes.place shows front.takes.taken parts
+                      (knows_behind found_on front.takes (knows_rest finds.passes.takes.place shows front.takes.taken parts
                       (omega (arith, count)) finds.known.0 front.left)),
                 );
             first = λ short left. absurd (omega (

@@ -13,7 +13,7 @@ use Rattle.body_reader.specs.declared.coding.Look.{Look}
 use Rattle.body_reader.specs.declared.coding.Look.TheVariants as look
 use Rattle.body_reader.specs.declared.error.BodyError.TheVariants.{Wrong, Truncated, Io}
 use Rattle.body_reader.specs.declared.progress.Progress.{Progress}
-use Rattle.body_reader.specs.Between.{EachGave, KeepsBuffer, PassesTo, PassesOn, SkipsOn, TakenThrough, TakesBytes, Way, spend}
+use Rattle.body_reader.specs.Between.{EachGave, KeepsBuffer, PassesTo, PassesOn, SkipsOn, TakenThrough, TakesBytes, Way}
 use Rattle.body_reader.specs.BetweenLaws.{AsksWithRoom-here, EachGave-joins, EachGave-none, EachGave-same, FaultedOnce-after, GaveNothingOnce-after, PassesTo-joins, PassesTo-none, PassesTo-once, PassesOn-way, ReadsAhead-asks, ReadsAhead-ended, ReadsAhead-failed, ReadsAhead-gave, ReadsAhead-keeps, ReadsAhead-open, TakesBytes-joins, TakesBytes-none, TakesBytes-still, TellsOnce-none, Way-joins, Way-none}
 use Rattle.body_reader.specs.Coding.{Grammar, IsDone, IsOpenBelow, Leads, Looks, heeded}
 use Rattle.body_reader.specs.CodingLaws.{IsOpen-goes_on, IsOpenBelow-open}
@@ -82,17 +82,6 @@ module _ {S Q P W : Type 0} (remaining : S → Option (List ℕ)) (rules : ReadR
     keeps = consumes_keeps remaining rules g.ahead n s t gone keeps;
   }
 
--- so far these bytes were taken, which are no payload, and nobody was asked
-pub record Passed {S Q P W : Type 0} (remaining : S → Option (List ℕ)) (rules : ReadRules Q) (g : Grammar P W)
-    (s : Buffered S Q) (p : Progress P) (m : Buffered S Q) (q : Progress P) : Type 0 where
-  pub wire : List ℕ
-  pub takes : TakesBytes remaining rules g s p wire [] m q
-  pub told : m.log ≡ s.log
-  pub through : TakenThrough s wire m
-  pub passes : PassesTo remaining rules g s p.place m q.place
-  pub spends : spend g q.place m.block.bytes ≤ spend g p.place s.block.bytes
-  pub idle : IsDone g p.place → (m ≡ s) × (q ≡ p)
-
 -- so far bytes were taken which are no payload, and each read gave some
 pub record Skipped {S Q P W : Type 0} (remaining : S → Option (List ℕ)) (rules : ReadRules Q) (g : Grammar P W)
     (s : Buffered S Q) (p : Progress P) (m : Buffered S Q) (q : Progress P) : Type 0 where
@@ -101,7 +90,7 @@ pub record Skipped {S Q P W : Type 0} (remaining : S → Option (List ℕ)) (rul
   pub room : g.ahead ≤ m.block.capacity
 
 module _ {S Q P W : Type 0} (remaining : S → Option (List ℕ)) (rules : ReadRules Q) (g : Grammar P W) where
-  pub passed_none : (s : Buffered S Q) (p : Progress P) → g.is_place p.place → Passed remaining rules g s p s p
+  pub passed_none : (s : Buffered S Q) (p : Progress P) → g.is_place p.place → PassesOn remaining rules g s p s p
   passed_none s p place = record {
     wire = [];
     takes = TakesBytes-none place;
@@ -112,12 +101,12 @@ module _ {S Q P W : Type 0} (remaining : S → Option (List ℕ)) (rules : ReadR
     idle = λ _. (refl, refl);
   }
 
-  module _ (s : Buffered S Q) (p : Progress P) (m : Buffered S Q) (q : Progress P) (so : Passed remaining rules g s p m q) where
+  module _ (s : Buffered S Q) (p : Progress P) (m : Buffered S Q) (q : Progress P) (so : PassesOn remaining rules g s p m q) where
     -- bytes that are no payload come next
     module _ (n : ℕ) (next : P) (looks : Looks g q.place m.block.bytes (look.Passed n next)) (q' : Progress P)
         (notes : Notes q next (take n m.block.bytes) q') (t : Buffered S Q) (inner : t.inner ≡ m.inner)
         (gone : ReaderConsumes rules n m t) (kept : ReaderKeeps remaining rules m t) where
-      pub passed_on : Passed remaining rules g s p t q'
+      pub passed_on : PassesOn remaining rules g s p t q'
       passed_on =
           let front = takes_front remaining rules g n m q t q' [] looks.1 inner gone kept next notes looks.2.leads looks.3 in
           record {
@@ -150,95 +139,86 @@ module _ {S Q P W : Type 0} (remaining : S → Option (List ℕ)) (rules : ReadR
   skipped_none s p place room =
       record { way = λ slice. Way-none place; gave = EachGave-none s; room = room }
 
-  module _ (s : Buffered S Q) (p : Progress P) (m : Buffered S Q) (q : Progress P) (so : Skipped remaining rules g s p m q)
-      (l : Look P W) (t : Buffered S Q) (r : Progress P) (passes : PassesOn remaining rules g m q l t r) where
+  module _ (s : Buffered S Q) (p : Progress P) (m : Buffered S Q) (q : Progress P) (so : Skipped remaining rules g s p m q) where
     -- all that is buffered was passed
-    skipped_there : Skipped remaining rules g s p t r
-    skipped_there = record {
+    pub skipped_there : (t : Buffered S Q) (r : Progress P) → PassesOn remaining rules g m q t r
+        → Skipped remaining rules g s p t r
+    skipped_there t r passes = record {
       way = λ slice. Way-joins (so.way slice) so.gave (PassesOn-way passes);
       gave = EachGave-joins s m t so.gave (EachGave-same m t passes.told);
       room = omega (arith, so.room, passes.takes.along.capacity);
     }
 
-    -- payload comes next
-    pub skips_payload : (sure : ℕ) → l ≡ look.Payload sure → (slice : ℕ) → SkipsOn remaining rules g slice s p (Ok sure) t r
-    skips_payload sure is slice =
-        (skipped_there.way slice, (skipped_there.gave, inr (subst (Looks g r.place t.block.bytes) is passes.looks)))
+    module _ (l : Look P W) (next : Looks g q.place m.block.bytes l) where
+      -- payload comes next
+      pub skips_payload : (sure : ℕ) → l ≡ look.Payload sure → (slice : ℕ)
+          → SkipsOn remaining rules g slice s p (Ok sure) m q
+      skips_payload sure is slice = (so.way slice, (so.gave, inr (subst (Looks g q.place m.block.bytes) is next)))
 
-    -- the body ended
-    pub skips_done : l ≡ look.Ended → (slice : ℕ) → SkipsOn remaining rules g slice s p (Ok 0) t r
-    skips_done is slice =
-        (skipped_there.way slice, (skipped_there.gave, inl (refl, subst (Looks g r.place t.block.bytes) is passes.looks)))
+      -- the body ended
+      pub skips_done : l ≡ look.Ended → (slice : ℕ) → SkipsOn remaining rules g slice s p (Ok 0) m q
+      skips_done is slice = (so.way slice, (so.gave, inl (refl, subst (Looks g q.place m.block.bytes) is next)))
 
-    -- what comes next is wrong
-    pub skips_wrong : (why : W) → l ≡ look.Wrong why → (slice : ℕ)
-        → SkipsOn remaining rules g slice s p (Err (Wrong why r.count)) t r
-    skips_wrong why is slice =
-        let looks : Looks g r.place t.block.bytes (look.Wrong why) = subst (Looks g r.place t.block.bytes) is passes.looks in
-        (skipped_there.way slice, (refl, skipped_there.gave, looks.0))
+      -- what comes next is wrong
+      pub skips_wrong : (why : W) → l ≡ look.Wrong why → (slice : ℕ)
+          → SkipsOn remaining rules g slice s p (Err (Wrong why q.count)) m q
+      skips_wrong why is slice =
+          let looks : Looks g q.place m.block.bytes (look.Wrong why) = subst (Looks g q.place m.block.bytes) is next in
+          (so.way slice, (refl, so.gave, looks.0))
 
-    -- there are too few bytes
-    module _ (n : ℕ) (is : l ≡ look.More n) {A : Type 0} (answer : Result A Error) (u : Buffered S Q)
-        (ahead' : ReadsAhead remaining rules (min n t.block.capacity) t answer u) where
-      looks : Looks g r.place t.block.bytes (look.More n)
-      looks = subst (Looks g r.place t.block.bytes) is passes.looks
+      -- there are too few bytes
+      module _ (n : ℕ) (is : l ≡ look.More n) where
+        looks : Looks g q.place m.block.bytes (look.More n)
+        looks = subst (Looks g q.place m.block.bytes) is next
 
-      lacks : IsOpenBelow g r.place n t.block.bytes
-      lacks = looks.0
+        lacks : IsOpenBelow g q.place n m.block.bytes
+        lacks = looks.0
 
-      pub fits : min n t.block.capacity ≡ n
-      fits = omega (arith, skipped_there.room, lacks.most)
+        -- of so many bytes those that are buffered are shown
+        pub shows_here : (bytes shown : List ℕ) → shown ≡ take (min n m.block.capacity) bytes
+            → length shown ≡ min n (length bytes)
+        shows_here bytes shown same =
+            omega (arith, ap length same, length-take (min n m.block.capacity) bytes, so.room, lacks.most)
 
-      ahead : ReadsAhead remaining rules n t answer u
-      ahead = subst (λ k. ReadsAhead remaining rules k t answer u) fits ahead'
+        module _ {A : Type 0} (u : Buffered S Q) where
+          module _ (answer : Result A Error) (ahead' : ReadsAhead remaining rules (min n m.block.capacity) m answer u) where
+            ahead : ReadsAhead remaining rules n m answer u
+            ahead =
+                let fits : min n m.block.capacity ≡ n = omega (arith, so.room, lacks.most) in
+                subst (λ k. ReadsAhead remaining rules k m answer u) fits ahead'
 
-      way_ahead : (slice : ℕ) → Way remaining rules g slice s p [] u r
-      way_ahead slice = Way-joins (skipped_there.way slice) skipped_there.gave (record {
-        wire = [];
-        takes = TakesBytes-still passes.takes.place ahead.along (ReadsAhead-keeps ahead lacks.most);
-        asked = AsksWithRoom-here remaining rules g slice t r.place u passes.takes.place (omega (arith, looks.1))
-            (ReadsAhead-asks lacks ahead);
-        through = inl (omega (arith, ahead.consumed));
-        tells = TellsOnce-none (PassesTo-once (inr (ahead.along, ahead.policy, refl)));
-        idle = λ done. absurd (IsOpen-goes_on g r.place t.block.bytes (IsOpenBelow-open g r.place n t.block.bytes lacks) done);
-      })
+            way_ahead : (slice : ℕ) → Way remaining rules g slice s p [] u q
+            way_ahead slice = Way-joins (so.way slice) so.gave (record {
+              wire = [];
+              takes = TakesBytes-still (so.way slice).takes.place ahead.along (ReadsAhead-keeps ahead lacks.most);
+              asked = AsksWithRoom-here remaining rules g slice m q.place u (so.way slice).takes.place (omega (arith, looks.1))
+                  (ReadsAhead-asks lacks ahead);
+              through = inl (omega (arith, ahead.consumed));
+              tells = TellsOnce-none (PassesTo-once (inr (ahead.along, ahead.policy, refl)));
+              idle = λ done. absurd (IsOpen-goes_on g q.place m.block.bytes (IsOpenBelow-open g q.place n m.block.bytes lacks)
+                  done);
+            })
 
-    module _ (n : ℕ) (is : l ≡ look.More n) {A : Type 0} (u : Buffered S Q) where
-      pub skips_fails : (e : Error) → ReadsAhead {A = A} remaining rules (min n t.block.capacity) t (Err e) u
-          → (slice : ℕ) → SkipsOn remaining rules g slice s p (Err (Io e)) u r
-      skips_fails e ahead' slice =
-          let a = ahead n is (Err e) u ahead' in (
-            way_ahead n is (Err e) u ahead' slice,
-            (
-              FaultedOnce-after s t u skipped_there.gave e (ReadsAhead-failed a),
-              ReadsAhead-open (lacks n is (Err e) u ahead') a a.ended.0,
-            ),
-          )
+          pub skips_fails : (e : Error) → ReadsAhead {A = A} remaining rules (min n m.block.capacity) m (Err e) u
+              → (slice : ℕ) → SkipsOn remaining rules g slice s p (Err (Io e)) u q
+          skips_fails e ahead' slice =
+              let a = ahead (Err e) ahead' in (
+                way_ahead (Err e) ahead' slice,
+                (FaultedOnce-after s m u so.gave e (ReadsAhead-failed a), ReadsAhead-open lacks a a.ended.0),
+              )
 
-      pub skips_cut : (a : A) → ReadsAhead remaining rules (min n t.block.capacity) t (Ok a) u → length u.block.bytes < n
-          → (slice : ℕ) → SkipsOn remaining rules g slice s p (Err (Truncated r.count)) u r
-      skips_cut a ahead' few slice =
-          let so' = ahead n is (Ok a) u ahead' in (
-            way_ahead n is (Ok a) u ahead' slice,
-            (
-              refl,
-              GaveNothingOnce-after s t u skipped_there.gave (ReadsAhead-ended so' few),
-              ReadsAhead-open (lacks n is (Ok a) u ahead') so' few,
-            ),
-          )
+          pub skips_cut : (a : A) → ReadsAhead remaining rules (min n m.block.capacity) m (Ok a) u → length u.block.bytes < n
+              → (slice : ℕ) → SkipsOn remaining rules g slice s p (Err (Truncated q.count)) u q
+          skips_cut a ahead' few slice =
+              let so' = ahead (Ok a) ahead' in (
+                way_ahead (Ok a) ahead' slice,
+                (refl, GaveNothingOnce-after s m u so.gave (ReadsAhead-ended so' few), ReadsAhead-open lacks so' few),
+              )
 
-      pub skipped_more : (a : A) → ReadsAhead remaining rules (min n t.block.capacity) t (Ok a) u → n ≤ length u.block.bytes
-          → Skipped remaining rules g s p u r
-      skipped_more a ahead' enough = record {
-        way = way_ahead n is (Ok a) u ahead';
-        gave = EachGave-joins s t u skipped_there.gave
-            (ReadsAhead-gave (ahead n is (Ok a) u ahead') enough);
-        room = omega (arith, skipped_there.room, ahead'.capacity);
-      }
-
-    -- of so many bytes those that are buffered are shown
-    pub shows_here : (n : ℕ) → l ≡ look.More n → (bytes shown : List ℕ) → shown ≡ take (min n t.block.capacity) bytes
-        → length shown ≡ min n (length bytes)
-    shows_here n is bytes shown same =
-        let looks : Looks g r.place t.block.bytes (look.More n) = subst (Looks g r.place t.block.bytes) is passes.looks in
-        omega (arith, ap length same, length-take (min n t.block.capacity) bytes, skipped_there.room, looks.0.most)
+          pub skipped_more : (a : A) → ReadsAhead remaining rules (min n m.block.capacity) m (Ok a) u → n ≤ length u.block.bytes
+              → Skipped remaining rules g s p u q
+          skipped_more a ahead' enough = record {
+            way = way_ahead (Ok a) ahead';
+            gave = EachGave-joins s m u so.gave (ReadsAhead-gave (ahead (Ok a) ahead') enough);
+            room = omega (arith, so.room, ahead'.capacity);
+          }

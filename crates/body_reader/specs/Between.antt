@@ -1,5 +1,5 @@
 -- What a reader of a body does with its buffered reader.
-use Rattle.std.specs.Prelude.{◌≡◌, ◌≢◌, ℕ, zero, suc, ◌+◌, ◌-◌, ◌*◌, ◌<◌, ◌≤◌, ◌⊎◌, List, [], ◌∷◌, ◌++◌, length, take, Option, Result, Ok, Err, MatchResult}
+use Rattle.std.specs.Prelude.{◌≡◌, ◌≢◌, ℕ, zero, suc, ◌+◌, ◌-◌, ◌*◌, ◌<◌, ◌≤◌, ◌⊎◌, List, [], ◌∷◌, ◌++◌, length, take, Option, MatchOption, Result, Ok, Err, MatchResult}
 use Rattle.std.specs.IoError.{error_kind}
 use Rattle.std.specs.declared.io.Error.{Error}
 use Rattle.std.specs.declared.io.ErrorKind.TheVariants.{InvalidData, UnexpectedEof}
@@ -81,6 +81,10 @@ pub record BeginsRead {S Q P W : Type 0} (g : Grammar P W) (s : Buffered S Q) (p
   pub some : 0 < length out
 
 module _ {P W : Type 0} (g : Grammar P W) where
+  -- a look says so, and nothing that is no payload comes next
+  abbrev pub LooksNext : P → List ℕ → Look P W → Type 0
+  LooksNext p shown look = Looks g p shown look × ((n : ℕ) (r : P) → look ≢ Passed n r)
+
   -- so many bytes are all that are buffered, or as many as a look says are payload
   abbrev pub AllShown : P → ℕ → List ℕ → Type 0
   AllShown p n bytes = (n ≡ length bytes) ⊎ IsNextPayload g p n bytes
@@ -168,16 +172,14 @@ module _ {S Q P W : Type 0} (remaining : S → Option (List ℕ)) (rules : ReadR
     pub pieces : HandsManyPieces count s p before handed last place after
     pub passes : PassesTo last place t q
 
-  -- all that is buffered and is no payload was taken, and then a look says so; nobody is asked. What is spent by that can't be
-  -- spent again
-  pub record PassesOn (s : Buffered S Q) (p : Progress P) (look : Look P W) (t : Buffered S Q) (q : Progress P) : Type 0 where
+  -- bytes that are buffered and no payload were taken; nobody is asked. What is spent by that can't be spent again, and once the
+  -- body ended nothing is done
+  pub record PassesOn (s : Buffered S Q) (p : Progress P) (t : Buffered S Q) (q : Progress P) : Type 0 where
     pub wire : List ℕ
     pub takes : TakesBytes s p wire [] t q
     pub told : t.log ≡ s.log
     pub through : TakenThrough s wire t
     pub passes : PassesTo s p.place t q.place
-    pub looks : Looks g q.place t.block.bytes look
-    pub no_more : (n : ℕ) (r : P) → look ≢ Passed n r
     pub spends : spend g q.place t.block.bytes ≤ spend g p.place s.block.bytes
     pub idle : IsDone g p.place → (t ≡ s) × (q ≡ p)
 
@@ -227,19 +229,15 @@ module _ {S Q P W : Type 0} (remaining : S → Option (List ℕ)) (rules : ReadR
   abbrev pub NoneShown : P → List ℕ → Type 0
   NoneShown p bytes = IsDone g p ⊎ (IsOpen g p bytes ⊎ ((why : W) × g.wrong p bytes why))
 
-  -- taking what is buffered and no payload, up to payload that is known, or none is shown; nobody is asked, and once the body
-  -- ended nothing is done
-  pub record FindsKnown (s : Buffered S Q) (p : Progress P) (before : ℕ) (t : Buffered S Q) (q : Progress P) (after : ℕ)
-      : Type 0 where
-    pub wire : List ℕ
-    pub takes : TakesBytes s p wire [] t q
-    pub told : t.log ≡ s.log
-    pub passes : PassesTo s p.place t q.place
+  -- taking what is buffered and no payload, up to payload that is known; or none is, and what comes next is answered
+  pub record FindsKnown (s : Buffered S Q) (p : Progress P) (before : ℕ) (next : Option (Look P W)) (t : Buffered S Q)
+      (q : Progress P) (after : ℕ) : Type 0 where
+    pub passes : PassesOn s p t q
     pub known : IsKnown g q.place after t.block.bytes
     pub kept : 0 < before → (t ≡ s) × (after ≡ before)
-    pub idle : IsDone g p.place → (t ≡ s) × (q ≡ p) × (after ≡ before)
     pub all : before ≡ 0 → 0 < after → AllShown g q.place after t.block.bytes
-    pub none : after ≡ 0 → NoneShown q.place t.block.bytes
+    pub none : MatchOption next (0 < after)
+        (λ look. (before ≡ 0) × (after ≡ 0) × LooksNext g q.place t.block.bytes look × NoneShown q.place t.block.bytes)
 
   -- handing out of what is buffered into a slice, which is left so, as much as it takes; nobody is asked. Where so much was known
   -- the policy is told of it once. Once the body ended, or where the slice is empty, nothing is done

@@ -14,7 +14,6 @@ use Rattle.buffer_redux.specs.ReaderLaws.{ReadsAlong-none, ReadsAlong-joins}
 use Rattle.buffer_redux.specs.Sparing.{Spared-none, Spared-joins}
 use Rattle.buffer_redux.specs.StreamLog.{after_read, zero_of_some}
 use Rattle.buffer_redux.specs.Unbuffer.{unbuffered}
-use Rattle.body_reader.specs.declared.coding.Look.{Look}
 use Rattle.body_reader.specs.declared.error.BodyError.{BodyError}
 use Rattle.body_reader.specs.declared.error.BodyError.TheVariants.{Wrong, Truncated, Io}
 use Rattle.body_reader.specs.declared.progress.Progress.{Progress}
@@ -293,8 +292,8 @@ module _ {S Q P W : Type 0} {remaining : S → Option (List ℕ)} {rules : ReadR
   }
 
   -- nobody was asked
-  pub PassesOn-way : {room : ℕ} {s : Buffered S Q} {p : Progress P} {l : Look P W} {t : Buffered S Q} {q : Progress P}
-      → PassesOn remaining rules g s p l t q → Way remaining rules g room s p [] t q
+  pub PassesOn-way : {room : ℕ} {s : Buffered S Q} {p : Progress P} {t : Buffered S Q} {q : Progress P}
+      → PassesOn remaining rules g s p t q → Way remaining rules g room s p [] t q
   PassesOn-way passes = record {
     wire = passes.wire;
     takes = passes.takes;

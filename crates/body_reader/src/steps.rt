@@ -1,9 +1,9 @@
 //! The steps of a reader of a body, over the buffered reader.
-ghost use Rattle.std.specs.Prelude.{◌≡◌, ℕ, ◌-◌, ◌<◌, ◌≤◌, length, min, take, IfOk};
+ghost use Rattle.std.specs.Prelude.{[], ◌≡◌, ℕ, ◌-◌, ◌<◌, ◌≤◌, length, min, take, IfOk};
 ghost use Rattle.buffer_redux.specs.Buffered.{GoesPast};
 ghost use Rattle.buffer_redux.specs.BufReader.{ReaderConsumes};
 ghost use Rattle.body_reader.specs.Coding.{Carries, IsKnown, Looks};
-ghost use Rattle.body_reader.specs.Between.{BeginsRead, FindsKnown, HandsOn, HandsShown, PassesOn, ShowsOn, SkipsOn, TakesFront};
+ghost use Rattle.body_reader.specs.Between.{BeginsRead, FindsKnown, HandsOn, HandsShown, LooksNext, PassesOn, ShowsOn, SkipsOn, TakesFront};
 
 use crate::coding::{Coding, Look};
 use crate::error::BodyError;
@@ -20,7 +20,8 @@ pub(crate) fn pass<R: TellRead, P: ReaderPolicy, C: Coding>(
     progress: &mut Progress<C::Place>,
 ) -> Look<C::Place, C::Wrong>
     requires place { (C.grammar coding.now).is_place progress.old.place }
-    ensures { PassesOn R.remaining P.rules (C.grammar coding.now) reader.old progress.old result reader.new progress.new }
+    ensures passes { PassesOn R.remaining P.rules (C.grammar coding.now) reader.old progress.old reader.new progress.new }
+    ensures next { LooksNext (C.grammar coding.now) progress.new.place reader.new.block.bytes result }
 {
     loop {
         let look = coding.look(progress.place, reader.buffer());
@@ -34,19 +35,21 @@ pub(crate) fn pass<R: TellRead, P: ReaderPolicy, C: Coding>(
     }
 }
 
-/// Takes what is no payload, and returns how many bytes of payload come next: 0 where the body ended.
+/// Takes what is no payload behind a look, and returns how many bytes of payload come next: 0 where the body ended.
 pub(crate) fn skip<R: TellRead, P: ReaderPolicy, C: Coding>(
     reader: &mut BufReader<R, P>,
     coding: &C,
     progress: &mut Progress<C::Place>,
+    mut look: Look<C::Place, C::Wrong>,
 ) -> Result<u64, BodyError<C::Wrong>>
     requires place { (C.grammar coding.now).is_place progress.old.place }
     requires room { (C.grammar coding.now).ahead ≤ reader.old.block.capacity }
+    requires next { LooksNext (C.grammar coding.now) progress.old.place reader.old.block.bytes look }
     ensures { (slice : ℕ) → SkipsOn R.remaining P.rules (C.grammar coding.now) slice reader.old progress.old result reader.new
         progress.new }
 {
     loop {
-        match pass(reader, coding, progress) {
+        match look {
             Look::Payload(sure) => return Ok(sure),
             Look::More(need) => {
                 let shown = reader.peek(need)?.len();
@@ -58,6 +61,7 @@ pub(crate) fn skip<R: TellRead, P: ReaderPolicy, C: Coding>(
             Look::Ended => return Ok(0),
             Look::Passed(_, _) => unreachable!(),
         }
+        look = pass(reader, coding, progress);
     }
 }
 
@@ -73,8 +77,8 @@ pub(crate) fn show<R: TellRead, P: ReaderPolicy, C: Coding>(
     requires place { (C.grammar coding.now).is_place progress.now.place }
     requires room { (C.grammar coding.now).ahead ≤ reader.old.block.capacity }
     requires sure { Looks (C.grammar coding.now) progress.now.place reader.old.block.bytes (Look.Payload sure) }
-    ensures { (slice : ℕ) → min sure slice ≤ reader.old.block.capacity → ShowsOn R.remaining P.rules (C.grammar coding.now) slice
-        reader.old progress.now result reader.new progress.now }
+    ensures { (slice : ℕ) → (reader.old.block.bytes ≡ [] → min sure slice ≤ reader.old.block.capacity)
+        → ShowsOn R.remaining P.rules (C.grammar coding.now) slice reader.old progress.now result reader.new progress.now }
 {
     let held = reader.buf_len();
     if held > 0 {
@@ -97,7 +101,8 @@ pub(crate) fn fill_on<R: TellRead, P: ReaderPolicy, C: Coding>(
     requires room { (C.grammar coding.now).ahead ≤ reader.old.block.capacity }
     ensures { ShowsOn R.remaining P.rules (C.grammar coding.now) 0 reader.old progress.old result reader.new progress.new }
 {
-    let sure = skip(reader, coding, progress)?;
+    let look = pass(reader, coding, progress);
+    let sure = skip(reader, coding, progress, look)?;
     if sure == 0 {
         return Ok(0);
     }
@@ -191,54 +196,32 @@ pub(crate) fn read_sure<R: TellRead, P: ReaderPolicy, C: Coding>(
         reader.new progress.new known.new }
     ensures known { IsKnown (C.grammar coding.now) progress.new.place known.new reader.new.block.bytes }
 {
-    let held = reader.buf_len();
-    if held > 0 {
-        *known = sure.min(held as u64) as usize;
-        return Ok(hand_out(reader, coding, progress, known, out));
-    }
     let most = sure.min(out.len() as u64) as usize;
-    if most >= reader.capacity() {
+    if most >= reader.capacity() && reader.buf_len() == 0 {
         return read_past(reader, coding, progress, most, out);
     }
     *known = show(reader, coding, progress, sure)?;
     Ok(hand_out(reader, coding, progress, known, out))
 }
 
-/// Hands out payload behind what is none.
-#[inline(always)]
-pub(crate) fn read_new<R: TellRead, P: ReaderPolicy, C: Coding>(
-    reader: &mut BufReader<R, P>,
-    coding: &C,
-    progress: &mut Progress<C::Place>,
-    known: &mut usize,
-    out: &mut [u8],
-) -> Result<usize, BodyError<C::Wrong>>
-    requires { BeginsRead (C.grammar coding.now) reader.old progress.old known.old out.old }
-    ensures hands { HandsOn R.remaining P.rules (C.grammar coding.now) known.old reader.old progress.old out.new result
-        reader.new progress.new known.new }
-    ensures known { IsKnown (C.grammar coding.now) progress.new.place known.new reader.new.block.bytes }
-{
-    if let Look::Payload(sure) = pass(reader, coding, progress) {
-        return read_sure(reader, coding, progress, known, sure, out);
-    }
-    read_slowly(reader, coding, progress, known, out)
-}
-
-// The same, where the stream may have to be asked. A call of its own, so that what it answers is cleared there alone.
+// Hands out payload behind a look, where the stream may have to be asked. A call of its own, so that what it answers is cleared
+// there alone.
 #[inline(never)]
 fn read_slowly<R: TellRead, P: ReaderPolicy, C: Coding>(
     reader: &mut BufReader<R, P>,
     coding: &C,
     progress: &mut Progress<C::Place>,
     known: &mut usize,
+    look: Look<C::Place, C::Wrong>,
     out: &mut [u8],
 ) -> Result<usize, BodyError<C::Wrong>>
-    requires { BeginsRead (C.grammar coding.now) reader.old progress.old known.old out.old }
+    requires begins { BeginsRead (C.grammar coding.now) reader.old progress.old known.old out.old }
+    requires next { LooksNext (C.grammar coding.now) progress.old.place reader.old.block.bytes look }
     ensures hands { HandsOn R.remaining P.rules (C.grammar coding.now) known.old reader.old progress.old out.new result
         reader.new progress.new known.new }
     ensures known { IsKnown (C.grammar coding.now) progress.new.place known.new reader.new.block.bytes }
 {
-    let sure = skip(reader, coding, progress)?;
+    let sure = skip(reader, coding, progress, look)?;
     if sure == 0 {
         return Ok(0);
     }
@@ -265,29 +248,39 @@ pub(crate) fn read_on<R: TellRead, P: ReaderPolicy, C: Coding>(
     if out.is_empty() {
         return Ok(0);
     }
-    if *known > 0 {
-        return Ok(hand_out(reader, coding, progress, known, out));
+    if let Some(look) = find_known(reader, coding, progress, known) {
+        return read_slowly(reader, coding, progress, known, look, out);
     }
-    read_new(reader, coding, progress, known, out)
+    Ok(hand_out(reader, coding, progress, known, out))
 }
 
-/// Knows what payload is buffered behind what is none, unless some is known. Nobody is asked.
+/// Knows what payload is buffered behind what is none, unless some is known, or says what comes in its place. Nobody is asked.
+#[inline(always)]
 pub(crate) fn find_known<R: TellRead, P: ReaderPolicy, C: Coding>(
     reader: &mut BufReader<R, P>,
     coding: &C,
     progress: &mut Progress<C::Place>,
     known: &mut usize,
-)
+) -> Option<Look<C::Place, C::Wrong>>
     requires place { (C.grammar coding.now).is_place progress.old.place }
     requires known { IsKnown (C.grammar coding.now) progress.old.place known.old reader.old.block.bytes }
-    ensures { FindsKnown R.remaining P.rules (C.grammar coding.now) reader.old progress.old known.old reader.new progress.new
-        known.new }
+    ensures { FindsKnown R.remaining P.rules (C.grammar coding.now) reader.old progress.old known.old result reader.new
+        progress.new known.new }
 {
     if *known > 0 {
-        return;
+        return None;
     }
-    if let Look::Payload(sure) = pass(reader, coding, progress) {
-        *known = sure.min(reader.buf_len() as u64) as usize;
+    let look = pass(reader, coding, progress);
+    let held = reader.buf_len();
+    match look {
+        Look::Payload(sure) => {
+            if held == 0 {
+                return Some(look);
+            }
+            *known = sure.min(held as u64) as usize;
+            None
+        }
+        _ => Some(look),
     }
 }
 
@@ -306,8 +299,7 @@ pub(crate) fn hand_buffered<R: TellRead, P: ReaderPolicy, C: Coding>(
 {
     let mut handed = 0;
     while handed < out.len() {
-        find_known(reader, coding, progress, known);
-        if *known == 0 {
+        if let Some(_) = find_known(reader, coding, progress, known) {
             return handed;
         }
         handed += hand_out(reader, coding, progress, known, &mut out[handed..]);

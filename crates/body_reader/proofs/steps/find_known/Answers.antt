@@ -7,12 +7,18 @@ pub returns-then-known-gt0 : goal.returns-then-known-gt0
 returns-then-known-gt0 g c =
     known_found _ _ _ _ _ _ c.requires.place c.requires.known (omega (arith, c.if-known-gt0.true))
 
-pub returns-in-Payload : goal.returns-in-Payload
-returns-in-Payload g c =
-    payload_found _ _ _ (g.met.C.Coding.lawful _) _ _ _ (omega (arith, c.if-known-gt0.false)) _ _ _ c.pass.ensures _
-    c.in-Payload.is _ (omega (arith, c.min.ensures, c.buf_len.ensures.value))
+pub returns-else-held-eq0 : goal.returns-else-held-eq0
+returns-else-held-eq0 g c =
+    payload_found _ _ _ _ _ _ (omega (arith, c.if-known-gt0.false)) _ _ _ c.pass-look.ensures.passes c.pass-look.ensures.next
+    _ c.in-Payload.is (omega (arith, c.if-held-eq0.false, c.buf_len-held.ensures.value)) _
+    (omega (arith, c.min.ensures, c.buf_len-held.ensures.value))
+
+pub returns-then-held-eq0 : goal.returns-then-held-eq0
+returns-then-held-eq0 g c = none_found _ _ _ _ _ _ (omega (arith, c.if-known-gt0.false)) _ _ _ c.pass-look.ensures.passes
+    (rw c.in-Payload.is at c.pass-look.ensures.next) (g.met.C.Coding.lawful _)
+    (λ _ _. omega (arith, c.if-held-eq0.true, c.buf_len-held.ensures.value)) _ (omega (arith, c.if-known-gt0.false))
 
 pub returns-in_default : goal.returns-in_default
-returns-in_default g c =
-    none_found _ _ _ (g.met.C.Coding.lawful _) _ _ _ (omega (arith, c.if-known-gt0.false)) _ _ _ c.pass.ensures
-    c.in_default.not-Payload _ (omega (arith, c.if-known-gt0.false))
+returns-in_default g c = none_found _ _ _ _ _ _ (omega (arith, c.if-known-gt0.false)) _ _ _ c.pass-look.ensures.passes
+    c.pass-look.ensures.next (g.met.C.Coding.lawful _)
+    (λ n is. absurd (c.in_default.not-Payload n is)) _ (omega (arith, c.if-known-gt0.false))

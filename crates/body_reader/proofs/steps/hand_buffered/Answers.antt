@@ -6,17 +6,19 @@ use Rattle.body_reader.proofs.steps.hand_buffered.Goals as goal
 pub loop-handed-init : goal.loop-handed-init
 loop-handed-init g c = shown_none _ _ _ _ _ _ _ c.requires.place c.requires.known
 
-pub returns-then-known-eq0 : goal.returns-then-known-eq0
-returns-then-known-eq0 g c =
-    none_shown _ _ _ _ _ _ _ _ _ _ _ c.loop-handed.invariant (omega (arith, c.loop-handed-test.true)) _ _ _ c.find_known.ensures
-    (omega (arith, c.if-known-eq0.true))
+pub returns-in-Some : goal.returns-in-Some
+returns-in-Some g c =
+    let finds = c.in-Some.ensures in
+    none_shown _ _ _ _ _ _ _ _ _ _ _ c.loop-handed.invariant (omega (arith, c.loop-handed-test.true)) _ _ _ _ finds
+    finds.none.0 finds.none.1 finds.none.3
 
 pub loop-handed-preserved : goal.loop-handed-preserved
 loop-handed-preserved g c =
+    let finds = c.in_default.ensures in
     let hands = c.hand_out-handed in
-    shown_more _ _ _ _ _ _ _ _ _ _ _ c.loop-handed.invariant (omega (arith, c.loop-handed-test.true)) _ _ _ c.find_known.ensures
-    _ _ _ _ _ (omega (arith, hands.ensures.count, c.if-known-eq0.false, c.loop-handed-test.true, hands.auto.out))
-    hands.ensures.count hands.ensures.bytes hands.ensures.took
+    shown_more _ _ _ _ _ _ _ _ _ _ _ c.loop-handed.invariant (omega (arith, c.loop-handed-test.true)) _ _ _ _ finds _ _ _ _ _
+    (omega (arith, hands.ensures.count, finds.none, c.loop-handed-test.true, hands.auto.out)) hands.ensures.count
+    hands.ensures.bytes hands.ensures.took
 
 pub returns : goal.returns
 returns g c = full_shown _ _ _ _ _ _ _ _ _ _ _ c.loop-handed.invariant (omega (arith, c.loop-handed-test.false))
