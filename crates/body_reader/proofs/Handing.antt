@@ -1,14 +1,15 @@
 -- Payload is handed out, and how that ends.
-use Rattle.std.proofs.Common.{◌≡◌, ◌==◌, ◌+◌, false, ℕ, zero, suc, ◌-◌, ◌<◌, ◌≤◌, ◌⊎◌, List, [], ◌++◌, length, min, take, drop, Option, Result, Ok, Err, IfOk, sym, ap, subst, ◌∙◌, arith, inl, inr, refl, append_assoc, append-nil, length-append}
+use Rattle.std.proofs.Common.{◌≡◌, ◌==◌, ◌+◌, false, ℕ, zero, suc, ◌-◌, ◌<◌, ◌≤◌, ◌⊎◌, List, [], ◌++◌, length, min, take, drop, Option, Some, Result, Ok, Err, IfOk, sym, ap, subst, ◌∙◌, arith, inl, inr, refl, append_assoc, append-nil, length-append}
 use Rattle.std.proofs.lemmas.Bool.{cases_lt}
 use Rattle.std.proofs.lemmas.List.{append_cancel_left, length-drop, length-take-le, take-append-drop}
 use Rattle.buffer_redux.specs.Buffered.{Buffered}
 use Rattle.buffer_redux.specs.BufReader.{ReaderConsumes, ReaderKeeps}
 use Rattle.buffer_redux.specs.Policy.{ReadRules}
+use Rattle.body_reader.specs.declared.coding.Look.{Look}
 use Rattle.body_reader.specs.declared.error.BodyError.{BodyError}
 use Rattle.body_reader.specs.declared.progress.Progress.{Progress}
-use Rattle.body_reader.specs.Between.{AllShown, EachGave, HandsOn, KnowsAll, PayloadFails, SkipsOn, TakesBytes, TakesFront, Way, handed_out}
-use Rattle.body_reader.specs.BetweenLaws.{EachGave-none, EachGave-same, PassesTo-none, Proceeds-after, Way-none}
+use Rattle.body_reader.specs.Between.{AllShown, EachGave, FindsKnown, HandsOn, HandsSome, KnowsAll, PayloadFails, SkipsOn, TakesBytes, TakesFront, Way, handed_out}
+use Rattle.body_reader.specs.BetweenLaws.{EachGave-none, EachGave-same, PassesOn-way, PassesTo-none, Proceeds-after, Way-none}
 use Rattle.body_reader.specs.Coding.{Carries, Grammar, IsDone, IsKnown, Leads, heeded}
 use Rattle.body_reader.specs.CodingLaws.{Leads-none, Leads-then}
 use Rattle.body_reader.proofs.Filling.{Proceeds-of, ended_here}
@@ -28,7 +29,7 @@ front_carries g p k n bytes carries few held =
 -- of bytes of which a look showed k the first n are taken, and the rest of the k stays known
 pub knows_rest : {P W : Type 0} {g : Grammar P W} {p : P} {taken taken' : List ℕ} {k n : ℕ} {bytes left : List ℕ} {k' : ℕ}
     → g.is_place p → AllShown g p k bytes → taken' ≡ taken ++ take n bytes → take n bytes ++ left ≡ bytes → n ≤ k
-    → k ≤ length bytes → k' ≡ k - n → KnowsAll g p taken taken' [] (take n bytes) k' left
+    → k ≤ length bytes → k' ≡ k - n → KnowsAll g p taken taken' (take n bytes) k' left
 knows_rest {g = g} {p = p} {k = k} {n = n} {bytes = bytes} {left = left} {k' = k'} place all is parts few held rest =
     let size : k ≡ length (take n bytes) + k' = omega (arith, rest, few, length-take-le n bytes (omega (arith, few, held))) in
     record {
@@ -103,11 +104,11 @@ module _ {S Q P W : Type 0} (remaining : S → Option (List ℕ)) (rules : ReadR
 -- what is told behind bytes that were taken is told from before them
 module _ {S Q P W : Type 0} {remaining : S → Option (List ℕ)} {rules : ReadRules Q} {g : Grammar P W} where
   pub knows_behind : {s : Buffered S Q} {p : Progress P} {m : Buffered S Q} {q : Progress P} {t : Buffered S Q} {r : Progress P}
-      {wire h wire' h' first last : List ℕ} {known : ℕ} → TakesBytes remaining rules g s p wire h m q
+      {wire wire' h' last : List ℕ} {known : ℕ} → TakesBytes remaining rules g s p wire [] m q
       → TakesBytes remaining rules g m q wire' h' t r
-      → KnowsAll g q.place q.taken.log.fills.consumed r.taken.log.fills.consumed first last known t.block.bytes
-      → KnowsAll g p.place p.taken.log.fills.consumed r.taken.log.fills.consumed (h ++ first) last known t.block.bytes
-  knows_behind {s} {p} {m} {q} {t} {r} {wire} {h} {wire'} {h'} {first} {last} before takes x =
+      → KnowsAll g q.place q.taken.log.fills.consumed r.taken.log.fills.consumed last known t.block.bytes
+      → KnowsAll g p.place p.taken.log.fills.consumed r.taken.log.fills.consumed last known t.block.bytes
+  knows_behind {s} {p} {m} {q} {t} {r} {wire} {wire'} {h'} {last} before takes x =
       let rest = t.block.bytes in
       let order = takes.along.in_order in
       let same : wire' ≡ x.wire ++ last =
@@ -121,7 +122,7 @@ module _ {S Q P W : Type 0} {remaining : S → Option (List ℕ)} {rules : ReadR
             ∙ ap (λ l. p.taken.log.fills.consumed ++ l) (sym (append_assoc wire x.wire last));
         place = x.place;
         is_place = x.is_place;
-        leads = Leads-then g p.place q.place x.place wire x.wire h first m.block.bytes order.got (last ++ rest) equal before.leads
+        leads = Leads-then g p.place q.place x.place wire x.wire [] [] m.block.bytes order.got (last ++ rest) equal before.leads
             x.leads;
         all = x.all;
       }
@@ -167,7 +168,7 @@ module _ {S Q P W : Type 0} (remaining : S → Option (List ℕ)) (rules : ReadR
             omega (arith, is),
             (λ none _. absurd (omega (arith, none, is, some, room))),
             full,
-            (λ unknown _. subst (λ l. KnowsAll g p.place p.taken.log.fills.consumed q.taken.log.fills.consumed [] l k'
+            (λ unknown _. subst (λ l. KnowsAll g p.place p.taken.log.fills.consumed q.taken.log.fills.consumed l k'
                 t.block.bytes) (sym same)
                 (knows_rest place (all unknown) taken.takes.taken
                 (consumes_parts rules n s t (omega (arith, is, known.0)) taken.consumed) (omega (arith, is)) known.0 taken.left)),
@@ -212,10 +213,7 @@ module _ {S Q P W : Type 0} (remaining : S → Option (List ℕ)) (rules : ReadR
 
     -- what an Ok means behind other calls
     abbrev Handed : Progress P → Buffered S Q → Progress P → ℕ → Type 0
-    Handed at t r n = (n ≤ length out) × (n ≡ 0 → 0 < length out → IsDone g r.place)
-        × ((n ≡ length out) ⊎ (after ≡ 0))
-        × (known ≡ 0 → 0 < n → KnowsAll g at.place at.taken.log.fills.consumed r.taken.log.fills.consumed [] (take n out) after
-        t.block.bytes)
+    Handed at t r = HandsSome remaining rules g known at out t r after
 
     pub hands_failed : (e : BodyError W) → Way remaining rules g (length out) s p [] m q → PayloadFails remaining rules g s e m q
         → HandsOn remaining rules g known s p out (Err e) m q after
@@ -236,6 +234,14 @@ module _ {S Q P W : Type 0} (remaining : S → Option (List ℕ)) (rules : ReadR
           )) hands.0),
       never,
     )
+
+    -- behind what was passed, where none was known
+    pub hands_passed : (l : Look P W) (k : ℕ) → FindsKnown remaining rules g s p known (Some l) m q k
+        → (answer : Result ℕ (BodyError W)) (t : Buffered S Q) (r : Progress P)
+        → HandsOn remaining rules g k m q out answer t r after → HandsOn remaining rules g known s p out answer t r after
+    hands_passed l k finds answer t r hands =
+        hands_after (PassesOn-way finds.passes) (EachGave-same s m finds.passes.told) answer t r
+        (subst (λ j. HandsOn remaining rules g j m q out answer t r after) (omega (arith, finds.none.0, finds.none.1)) hands)
 
     pub hands_ended : after ≡ 0 → SkipsOn remaining rules g (length out) s p (Ok 0) m q
         → HandsOn remaining rules g known s p out (Ok 0) m q after

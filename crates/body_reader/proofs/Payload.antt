@@ -7,7 +7,7 @@ use Rattle.buffer_redux.specs.StreamLog.{StreamLog}
 use Rattle.body_reader.specs.declared.error.BodyError.{BodyError}
 use Rattle.body_reader.specs.declared.error.BodyError.TheVariants.{Wrong, Truncated, Io}
 use Rattle.body_reader.specs.declared.progress.Progress.{Progress}
-use Rattle.body_reader.specs.Between.{AllShown, EachGave, HandsOn, KnowsAll, PayloadFails, ShowsOn, StopsFor, TakesBytes, Way, handed_out}
+use Rattle.body_reader.specs.Between.{AllShown, EachGave, HandsOn, HandsSome, KnowsAll, PayloadFails, ShowsOn, StopsFor, TakesBytes, Way, handed_out}
 use Rattle.body_reader.specs.BodyReader.{BodyState, BodyWent, Breaks, EndsEarly, FillsPayload, IsBodyReader, NotedIfOk, TookWholeBody, ReadsPayload, NoPayload, seen, taken_count}
 use Rattle.body_reader.specs.BodyReaderLaws.{BodyWent-none}
 use Rattle.body_reader.specs.BetweenLaws.{AsksWithRoom-open, EachGave-none, PassesTo-none, TellsOnce-passes}
@@ -104,11 +104,7 @@ module _ {S Q C P W : Type 0} (remaining : S → Option (List ℕ)) (rules : Rea
   still = state_is hands.0.0.takes given is known
 
   abbrev Ends : Result ℕ (BodyError W) → Type 0
-  Ends a = MatchResult a (λ n. EachGave r r' × ((n ≤ length out) × (n ≡ 0 → 0 < length out → IsDone g q.place)
-      × ((n ≡ length out) ⊎ (k' ≡ 0))
-      × (k ≡ 0 → 0 < n
-      → KnowsAll g p.place p.taken.log.fills.consumed q.taken.log.fills.consumed [] (take n out) k' r'.block.bytes)))
-      (λ e. PayloadFails remaining rules g r e r' q)
+  Ends a = MatchResult a (λ n. EachGave r r' × HandsSome remaining rules g k p out r' q k' n) (λ e. PayloadFails remaining rules g r e r' q)
 
   answered : (a : Result ℕ (BodyError W)) → Ends a
       → MatchResult a (λ n. (n ≤ length out) × EachGave r r' × (n ≡ 0 → 0 < length out → TookWholeBody g after))
@@ -122,7 +118,7 @@ module _ {S Q C P W : Type 0} (remaining : S → Option (List ℕ)) (rules : Rea
 
   knows_told : (a : Result ℕ (BodyError W)) → Ends a → k ≡ 0
       → IfOk a (λ n. 0 < n
-      → KnowsAll g p.place p.taken.log.fills.consumed q.taken.log.fills.consumed [] (take n out) k' r'.block.bytes)
+      → KnowsAll g p.place p.taken.log.fills.consumed q.taken.log.fills.consumed (take n out) k' r'.block.bytes)
   knows_told (Ok n) ends none = ends.1.3 none
   knows_told (Err e) ends none = tt
 

@@ -9,14 +9,13 @@ use Rattle.buffer_redux.specs.StreamLog.{StreamLog}
 use Rattle.body_reader.specs.declared.coding.Look.{Look}
 use Rattle.body_reader.specs.declared.coding.Look.TheVariants as look
 use Rattle.body_reader.specs.declared.progress.Progress.{Progress}
-use Rattle.body_reader.specs.Between.{AllShown, FindsKnown, HandsPiece, HandsManyPieces, HandsShown, KnowsAll, LooksNext, KnowsBehind, NoneShown, PassesOn, TakesBytes, TakesFront}
+use Rattle.body_reader.specs.Between.{AllShown, FindsKnown, HandsPiece, HandsManyPieces, HandsShown, LooksNext, NoneShown, PassesOn, TakesBytes, TakesFront}
 use Rattle.body_reader.specs.BetweenLaws.{PassesTo-none, TakesBytes-joins, TakesBytes-none}
 use Rattle.body_reader.specs.BodyReader.{Breaks, EndsEarly, HandsBuffered, IsBodyReader, NotedIfSome, TookWholeBody, seen}
 use Rattle.body_reader.specs.BodyReaderLaws.{NotedIfSome-given}
 use Rattle.body_reader.specs.Coding.{Grammar, IsDone, IsKnown, IsLawful, Looks}
 use Rattle.body_reader.specs.CodingLaws.{IsOpenBelow-open, Leads-done, Leads-whole, open_at}
 use Rattle.body_reader.proofs.Filling.{Carries-fewer, all_shown}
-use Rattle.body_reader.proofs.Handing.{knows_behind, knows_rest}
 use Rattle.body_reader.proofs.Payload.{breaks_so, early, state_is, state_went}
 use Rattle.body_reader.proofs.Skipping.{consumes_parts, passed_none}
 use borrow.Rule.Slice.PartMut.{put_mid}
@@ -91,8 +90,6 @@ module _ {S Q P W : Type 0} (remaining : S → Option (List ℕ)) (rules : ReadR
     pub left : handed ≤ before → k ≡ before - handed
     pub fresh : handed ≡ 0 → (m ≡ s) × (k ≡ before)
     pub consumed : 0 < handed → handed ≤ before → ReaderConsumes rules handed s m
-    pub knows : before < handed
-        → KnowsBehind g p.place p.taken.log.fills.consumed q.taken.log.fills.consumed (take handed out) k m.block.bytes
     pub first : handed < length out → 0 < k → handed ≡ 0
     pub idle : (IsDone g p.place ⊎ (length out ≡ 0)) → (handed ≡ 0) × (m ≡ s) × (q ≡ p) × (k ≡ before)
 
@@ -108,7 +105,6 @@ module _ {S Q P W : Type 0} (remaining : S → Option (List ℕ)) (rules : ReadR
     left = λ _. omega arith;
     fresh = λ _. (refl, refl);
     consumed = λ some. absurd (omega (arith, some));
-    knows = λ more. absurd (omega (arith, more));
     first = λ _ _. refl;
     idle = λ _. (refl, refl, refl, refl);
   }
@@ -128,13 +124,13 @@ module _ {S Q P W : Type 0} (remaining : S → Option (List ℕ)) (rules : ReadR
             place = q.place;
             pieces = so.pieces.1;
             passes = PassesTo-none;
+            still = λ _. (refl, refl);
           };
           within = so.within;
           known = so.known;
           left = so.left;
           consumed = λ some few. subst (λ n. ReaderConsumes rules n s m) all
               (so.consumed (omega (arith, all, some)) (omega (arith, all, few)));
-          knows = λ beyond _. so.knows beyond;
           idle = so.idle;
           full = inl all;
           all = inl all;
@@ -163,12 +159,12 @@ module _ {S Q P W : Type 0} (remaining : S → Option (List ℕ)) (rules : ReadR
           pieces = subst (HandsManyPieces remaining rules g so.pieces.0 s p.place before handed m q.place)
               (omega (arith, nothing, none)) so.pieces.1;
           passes = finds.passes.passes;
+          still = λ full. absurd (omega (arith, room, full));
         };
         within = so.within;
         known = finds.known;
         left = λ few. omega (arith, so.left few, nothing, none);
         consumed = λ _ enough. absurd (omega (arith, room, enough, so.left (omega (arith, room, enough)), nothing));
-        knows = λ _ full. absurd (omega (arith, room, full));
         idle = λ either. elim either [
           | inl done ↦
               let first = so.idle (inl done) in
@@ -237,18 +233,6 @@ module _ {S Q P W : Type 0} (remaining : S → Option (List ℕ)) (rules : ReadR
                 let same : f ≡ s = (finds.kept known).0 ∙ (so.fresh none).0 in
                 let all : n ≡ handed + n = omega (arith, none) in
                 subst (λ j. ReaderConsumes rules j s t) all (subst (λ x. ReaderConsumes rules n x t) same front.consumed);
-            knows = λ beyond.
-                let none : k ≡ 0 = zero_unless k (λ some. (let first = so.first room some in
-                omega (arith, count, beyond, first, kept some, so.left (omega (arith, first))))) in
-                let shows = finds.all none (omega (arith, some, count)) in (
-                  take handed out,
-                  take n f.block.bytes,
-                  joined,
-                  subst (λ l. KnowsAll g p.place p.taken.log.fills.consumed u.taken.log.fills.consumed l (take n f.block.bytes)
-                      k'' t.block.bytes) (append-nil (take handed out))
-                      (knows_behind found_on front.takes (knows_rest finds.passes.takes.place shows front.takes.taken parts
-                      (omega (arith, count)) finds.known.0 front.left)),
-                );
             first = λ short left. absurd (omega (
               arith,
               count,
@@ -308,7 +292,6 @@ module _ {S Q C P W : Type 0} (remaining : S → Option (List ℕ)) (rules : Rea
     left = hands.left;
     consumed = hands.consumed;
     pieces = hands.pieces;
-    knows = hands.knows;
     idle = idle;
     noted = noted;
     whole = shown_is;

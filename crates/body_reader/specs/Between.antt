@@ -89,20 +89,15 @@ module _ {P W : Type 0} (g : Grammar P W) where
   abbrev pub AllShown : P → ℕ → List ℕ → Type 0
   AllShown p n bytes = (n ≡ length bytes) ⊎ IsNextPayload g p n bytes
 
-  -- of the bytes that were taken the last are payload, behind some in which there is this payload, and so many of what is left
-  -- are known to be: together all that there is, or that a look says
-  pub record KnowsAll (p : P) (taken taken' first last : List ℕ) (known : ℕ) (left : List ℕ) : Type 0 where
+  -- of the bytes that were taken the last are payload, behind some in which there is none, and so many of what is left are known
+  -- to be: together all that there is, or that a look says
+  pub record KnowsAll (p : P) (taken taken' last : List ℕ) (known : ℕ) (left : List ℕ) : Type 0 where
     pub wire : List ℕ
     pub equal : taken' ≡ taken ++ (wire ++ last)
     pub place : P
     pub is_place : g.is_place place
-    pub leads : Leads g p wire first place (heeded g (last ++ left))
+    pub leads : Leads g p wire [] place (heeded g (last ++ left))
     pub all : AllShown place (length last + known) (last ++ left)
-
-  -- so it is with the last of what was handed out
-  abbrev pub KnowsBehind : P → List ℕ → List ℕ → List ℕ → ℕ → List ℕ → Type 0
-  KnowsBehind p taken taken' handed known left =
-      (first : List ℕ) × (last : List ℕ) × (handed ≡ first ++ last) × KnowsAll p taken taken' first last known left
 
 module _ {S Q P W : Type 0} (remaining : S → Option (List ℕ)) (rules : ReadRules Q) (g : Grammar P W) where
   -- what any calls do that take these bytes of a body, in which there is this payload
@@ -164,13 +159,15 @@ module _ {S Q P W : Type 0} (remaining : S → Option (List ℕ)) (rules : ReadR
       × HandsManyPieces count s p before fewer m r known × HandsPiece m r known n t q after
       × (0 < fewer → known ≡ 0) × (handed ≡ fewer + n)
 
-  -- pieces, and then what is no payload was passed
-  pub record HandsPiecewise (s : Buffered S Q) (p : P) (before handed : ℕ) (t : Buffered S Q) (q : P) (after : ℕ) : Type 0 where
+  -- pieces, and then what is no payload was passed, unless as much was handed out as there is room for
+  pub record HandsPiecewise (room : ℕ) (s : Buffered S Q) (p : P) (before handed : ℕ) (t : Buffered S Q) (q : P) (after : ℕ)
+      : Type 0 where
     pub count : ℕ
     pub last : Buffered S Q
     pub place : P
     pub pieces : HandsManyPieces count s p before handed last place after
     pub passes : PassesTo last place t q
+    pub still : handed ≡ room → (t ≡ last) × (q ≡ place)
 
   -- bytes that are buffered and no payload were taken; nobody is asked. What is spent by that can't be spent again, and once the
   -- body ended nothing is done
@@ -246,25 +243,27 @@ module _ {S Q P W : Type 0} (remaining : S → Option (List ℕ)) (rules : ReadR
     pub wire : List ℕ
     pub takes : TakesBytes s p wire (take handed out) t q
     pub told : t.log ≡ s.log
-    pub pieces : HandsPiecewise s p.place before handed t q.place after
+    pub pieces : HandsPiecewise (length out) s p.place before handed t q.place after
     pub within : handed ≤ length out
     pub known : IsKnown g q.place after t.block.bytes
     pub left : handed ≤ before → after ≡ before - handed
     pub consumed : 0 < length out → length out ≤ before → ReaderConsumes rules (length out) s t
-    pub knows : before < handed → handed ≡ length out
-        → KnowsBehind g p.place p.taken.log.fills.consumed q.taken.log.fills.consumed (take handed out) after t.block.bytes
     pub idle : (IsDone g p.place ⊎ (length out ≡ 0)) → (handed ≡ 0) × (t ≡ s) × (q ≡ p) × (after ≡ before)
     pub full : (handed ≡ length out) ⊎ (after ≡ 0)
     pub all : (handed ≡ length out) ⊎ NoneShown q.place t.block.bytes
 
-  -- handing payload out into a slice, which is left so: no less than can be, and what a look told stays known. None comes into
-  -- one that isn't empty only where the body ended; where it is empty nothing is done
-  abbrev pub HandsOn : ℕ → Buffered S Q → Progress P → List ℕ → Result ℕ (BodyError W) → Buffered S Q → Progress P → ℕ → Type 0
-  HandsOn before s p out answer t q after = Proceeds (length out) s p (handed_out out answer) answer
-      (λ n. (n ≤ length out) × (n ≡ 0 → 0 < length out → IsDone g q.place)
+  -- so many bytes of payload were handed out into a slice, which is left so: no less than can be, and what a look told stays
+  -- known. None comes into one that isn't empty only where the body ended
+  abbrev pub HandsSome : ℕ → Progress P → List ℕ → Buffered S Q → Progress P → ℕ → ℕ → Type 0
+  HandsSome before p out t q after n = (n ≤ length out) × (n ≡ 0 → 0 < length out → IsDone g q.place)
       × ((n ≡ length out) ⊎ (after ≡ 0))
-      × (before ≡ 0 → 0 < n → KnowsAll g p.place p.taken.log.fills.consumed q.taken.log.fills.consumed [] (take n out) after
-      t.block.bytes)) t q
+      × (before ≡ 0 → 0 < n → KnowsAll g p.place p.taken.log.fills.consumed q.taken.log.fills.consumed (take n out) after
+      t.block.bytes)
+
+  -- handing payload out so; where the slice is empty nothing is done
+  abbrev pub HandsOn : ℕ → Buffered S Q → Progress P → List ℕ → Result ℕ (BodyError W) → Buffered S Q → Progress P → ℕ → Type 0
+  HandsOn before s p out answer t q after =
+      Proceeds (length out) s p (handed_out out answer) answer (HandsSome before p out t q after) t q
       × (length out ≡ 0 → (answer ≡ Ok 0) × (t ≡ s) × (q ≡ p) × (after ≡ before))
 
 -- an error as one of std's streams

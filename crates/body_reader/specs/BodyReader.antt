@@ -15,7 +15,7 @@ use Rattle.body_reader.specs.declared.error.CollectError.{CollectError}
 use Rattle.body_reader.specs.declared.error.CollectError.TheVariants as collect
 use Rattle.body_reader.specs.declared.progress.Progress.{Progress}
 use Rattle.buffer_redux.specs.Asking.{AskedWhere}
-use Rattle.body_reader.specs.Between.{AllShown, AsksOpen, AsksWithRoom, BecomesIo, EachGave, FaultedOnce, GaveNothingOnce, HandsPiecewise, KeepsBuffer, KnowsAll, KnowsBehind, PassesTo, StopsFor, TakenThrough, TellsOnce, handed_out}
+use Rattle.body_reader.specs.Between.{AllShown, AsksOpen, AsksWithRoom, BecomesIo, EachGave, FaultedOnce, GaveNothingOnce, HandsPiecewise, KeepsBuffer, KnowsAll, PassesTo, StopsFor, TakenThrough, TellsOnce, handed_out}
 use Rattle.body_reader.specs.Coding.{Grammar, IsBody, IsKnown, IsOpen, Leads, LeadsOpen, heeded}
 
 -- the buffered reader; the coding; where in the body the reader stands; the bytes of it that were taken so far; what it handed
@@ -109,7 +109,7 @@ module _ {S Q C P W : Type 0} (remaining : S → Option (List ℕ)) (rules : Rea
     pub full : IfOk answer (λ n. (n ≡ length out) ⊎ (t.known ≡ 0))
     pub left : 0 < s.known → IfOk answer (λ n. (n ≡ min s.known (length out)) × (t.known ≡ s.known - n))
     pub knows : s.known ≡ 0 → IfOk answer
-        (λ n. 0 < n → KnowsAll g s.place s.taken t.taken [] (take n out) t.known t.reader.block.bytes)
+        (λ n. 0 < n → KnowsAll g s.place s.taken t.taken (take n out) t.known t.reader.block.bytes)
     pub consumed : 0 < s.known → IfOk answer (λ n. 0 < n → ReaderConsumes rules n s.reader t.reader)
     pub tells : TellsOnce remaining rules g s.reader s.place (length (handed_out out answer)) t.reader t.place
     pub idle : (TookWholeBody g s ⊎ (length out ≡ 0)) → t ≡ record s { calls = t.calls }
@@ -224,9 +224,7 @@ module _ {S Q C P W : Type 0} (remaining : S → Option (List ℕ)) (rules : Rea
     pub all : (handed ≡ length out) ⊎ (TookWholeBody g t ⊎ (EndsEarly g t ⊎ ((why : W) × Breaks g why t)))
     pub left : handed ≤ s.known → t.known ≡ s.known - handed
     pub consumed : 0 < length out → length out ≤ s.known → ReaderConsumes rules (length out) s.reader t.reader
-    pub pieces : HandsPiecewise remaining rules g s.reader s.place s.known handed t.reader t.place t.known
-    pub knows : s.known < handed → handed ≡ length out
-        → KnowsBehind g s.place s.taken t.taken (take handed out) t.known t.reader.block.bytes
+    pub pieces : HandsPiecewise remaining rules g (length out) s.reader s.place s.known handed t.reader t.place t.known
     pub idle : (TookWholeBody g s ⊎ (length out ≡ 0)) → t ≡ s
     pub noted : NotedIfSome s.calls out handed t.calls
     pub whole : IsBodyReader g t

@@ -256,24 +256,3 @@ module _ {P W : Type 0} (g : Grammar P W) where
   looks_done p shown (More n) done looks = absurd (IsOpen-goes_on p shown (IsOpenBelow-open p n shown looks.0) done)
   looks_done p shown (Wrong why) done looks = absurd (looks.1 done)
   looks_done p shown Ended done looks = refl
-
-  -- where something is wrong a look says what, also where more is shown
-  pub stays_wrong : IsLawful g → (p : P) (shown more : List ℕ) (why : W) (l : Look P W) → g.is_place p → g.wrong p shown why
-      → Looks g p (shown ++ more) l → l ≡ Wrong why
-  stays_wrong lawful p shown more why l place before = told l
-    where
-      all : List ℕ
-      all = shown ++ more
-
-      wrong : g.wrong p all why
-      wrong = lawful.stays p shown more why place before
-
-      told : (l : Look P W) → Looks g p all l → l ≡ Wrong why
-      told (Payload n) looks = absurd (looks.3 why wrong)
-      told (Passed n q) looks = absurd (looks.5 why wrong)
-      told (More n) looks =
-          let o = IsOpenBelow-open p n all looks.0 in
-          absurd (lawful.never p all why (all ++ o.behind) o.payload place wrong o.completes
-          (o.behind, [], sym (append-nil (all ++ o.behind))))
-      told (Wrong other) looks = ap Wrong (lawful.reason p all other why place looks.0 wrong)
-      told Ended looks = absurd (lawful.never p all why [] [] place wrong looks (Agree-nothing all))

@@ -249,7 +249,10 @@ pub(crate) fn read_on<R: TellRead, P: ReaderPolicy, C: Coding>(
         return Ok(0);
     }
     if let Some(look) = find_known(reader, coding, progress, known) {
-        return read_slowly(reader, coding, progress, known, look, out);
+        return match look {
+            Look::Payload(sure) => read_sure(reader, coding, progress, known, sure, out),
+            _ => read_slowly(reader, coding, progress, known, look, out),
+        };
     }
     Ok(hand_out(reader, coding, progress, known, out))
 }
