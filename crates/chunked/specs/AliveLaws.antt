@@ -1,17 +1,15 @@
 -- From each place a body can be completed.
-use Rattle.std.proofs.Common.{ℕ, zero, suc, ◌-◌, ◌^◌, ◌<◌, List, [], ◌∷◌, ◌++◌, ◌≡◌, ◌⊎◌, length, arith, inl, inr, refl}
+use Rattle.std.proofs.Common.{ℕ, zero, suc, ◌-◌, ◌^◌, ◌<◌, List, [], ◌∷◌, ◌++◌, length, arith, inl, inr, refl}
 use Rattle.chunked.specs.Names.{behind_size, BehindSize, Completes, CompletesExtension, Data, DataFeed, Done, Extension, FieldFeed, FieldName, Fields, FieldValue, IsPlace, LastFeed, Limits, Line, line_end, Place, Size, SizeFeed, StepsTo}
 use Rattle.chunked.specs.LineLaws.{line_ends}
 use Rattle.chunked.specs.StepLaws.{behind_on, step_on}
 
--- with payload of such a byte
-module _ (limits : Limits) (filler : ℕ) where
-  -- bytes with a payload that complete the body from here; and that is none, or begins with that byte
+module _ (limits : Limits) where
+  -- bytes with a payload that complete the body from here
   pub record Completed (p : Place) : Type 0 where
     pub rest : List ℕ
     pub payload : List ℕ
     pub completes : Completes limits p rest payload
-    pub plain : (payload ≡ []) ⊎ ((more : List ℕ) × (payload ≡ filler ∷ more))
 
   -- from where a byte leads to such a place
   before : (p : Place) (b : ℕ) (q : Place) → StepsTo limits p b q → Completed q → Completed p
@@ -19,11 +17,10 @@ module _ (limits : Limits) (filler : ℕ) where
     rest = b ∷ c.rest;
     payload = c.payload;
     completes = step_on limits p b q c.rest c.payload s c.completes;
-    plain = c.plain;
   }
 
   last : Completed LastFeed
-  last = record { rest = 10 ∷ []; payload = []; completes = (refl, (refl, refl)); plain = inl refl }
+  last = record { rest = 10 ∷ []; payload = []; completes = (refl, (refl, refl)) }
 
   fields : (room : ℕ) → Completed (Fields room)
   fields room = before (Fields room) 13 LastFeed (inl (refl, refl)) last
@@ -48,12 +45,8 @@ module _ (limits : Limits) (filler : ℕ) where
 
   left_of : (left : ℕ) → Completed (Data left)
   left_of zero = before (Data zero) 13 DataFeed (refl, refl, refl) data_feed
-  left_of (suc left) = let c = left_of left in record {
-    rest = filler ∷ c.rest;
-    payload = filler ∷ c.payload;
-    completes = (c.payload, refl, c.completes);
-    plain = inr (c.payload, refl);
-  }
+  left_of (suc left) =
+      let c = left_of left in record { rest = 0 ∷ c.rest; payload = 0 ∷ c.payload; completes = (c.payload, refl, c.completes) }
 
   behind : (size : ℕ) → Completed (behind_size limits size)
   behind zero = fields limits.trailers
@@ -70,7 +63,6 @@ module _ (limits : Limits) (filler : ℕ) where
           (room - length is.1.0) is.1.1 (omega (arith, is.1.2)) (behind_on limits size c.rest c.payload c.completes),
       is.0,
     );
-    plain = c.plain;
   }
   Completes-some (SizeFeed size) is = sized size is (behind size)
   Completes-some (Data left) is = left_of left
@@ -81,4 +73,4 @@ module _ (limits : Limits) (filler : ℕ) where
   Completes-some (FieldValue room) is = value room
   Completes-some (FieldFeed room) is = before (FieldFeed room) 10 (Fields room) (refl, refl) (fields room)
   Completes-some LastFeed is = last
-  Completes-some Done is = record { rest = []; payload = []; completes = (refl, refl); plain = inl refl }
+  Completes-some Done is = record { rest = []; payload = []; completes = (refl, refl) }

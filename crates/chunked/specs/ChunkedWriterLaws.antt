@@ -1,9 +1,7 @@
 -- Laws of a writer of a body: traces of calls join.
-use Rattle.std.specs.Prelude.{◌≡◌, ℕ, List, [], ◌++◌, flat_map}
-use Rattle.chunked.specs.Names.{accepted_of, All-append, All-nil, body_end, Buffered, chunk, ChunkedWriterState, ChunkingWent, ChunksWent, concat, concat-append, Error, Finishes, flat_map-append, IsBodyOfChunks, IsCarried, IsChunkedWriter, LetsThrough, Limits, NotFinished, PayloadWent, StdPolicy, StreamLog, WriteLogGrows-joins, WriteLogGrows-none, WritesGoOn, WritesGoOn-of, WritesInOrder-joins, WritesInOrder-none}
+use Rattle.std.specs.Prelude.{ℕ, List, [], ◌++◌, flat_map}
+use Rattle.chunked.specs.Names.{accepted_of, All-append, All-nil, chunk, ChunkedWriterState, ChunkingWent, ChunksWent, concat, concat-append, flat_map-append, IsCarried, PayloadWent, WriteLogGrows-joins, WriteLogGrows-none, WritesGoOn, WritesGoOn-of, WritesInOrder-joins, WritesInOrder-none}
 use Rattle.std.proofs.Common.{sym, ap, ◌∙◌, refl, append_assoc, append-nil}
-use Rattle.chunked.specs.ChunkLaws.{IsChunks-behind, IsChunks-body}
-use Rattle.chunked.specs.TrailersLaws.{trailers_are_fields}
 
 module _ {S : Type 0} (trace : S → S → Type 0) (none : (x : S) → trace x x)
     (joins : (a b c : S) → trace a b → trace b c → trace a c) where
@@ -58,34 +56,6 @@ module _ {S : Type 0} (trace : S → S → Type 0) (none : (x : S) → trace x x
     went = PayloadWent-joins s m t p.bytes q.bytes p.payload q.payload p.went q.went;
     grows = WriteLogGrows-joins s.calls.writes m.calls.writes t.calls.writes p.grows q.grows;
   }
-
--- what couldn't be finished took in nothing
-pub NotFinished-went : {S : Type 0} (tells : S → StreamLog) (trace : S → S → Type 0) (s : ChunkedWriterState S)
-    (fields : List (List ℕ)) (e : Error) (t : ChunkedWriterState S) → NotFinished tells trace s fields e t
-    → ChunksWent trace s [] t
-NotFinished-went tells trace s fields e t n = record {
-  carried = All-nil IsCarried;
-  went = record {
-    in_order = n.sends.in_order;
-    wire = n.wire ∙ sym (append-nil s.wire);
-    accepted = ap (λ l. l.writes.received) n.calls ∙ sym (append-nil (accepted_of s));
-    calls = n.sends.went.calls;
-    noted = n.sends.went.noted;
-    capacity = n.sends.capacity;
-    limit = n.sends.sends.sent.dropped.limit;
-  };
-  due = n.due ∙ sym n.between;
-}
-
--- a writer that was taken apart between chunks, and one that goes on behind its chunks and ends the body, wrote one body
-pub Finishes-behind : {S : Type 0} (tells : S → StreamLog) (trace : S → S → Type 0) (first s : ChunkedWriterState S)
-    (fields : List (List ℕ)) (t : Buffered S StdPolicy) → IsChunkedWriter first → first.due ≡ 0 → IsChunkedWriter s
-    → Finishes tells trace s fields t → (limits : Limits) → LetsThrough fields limits
-    → IsBodyOfChunks limits ((first.wire ++ s.wire) ++ body_end fields) (accepted_of first ++ accepted_of s)
-Finishes-behind tells trace first s fields t before between whole ends limits through =
-    IsChunks-body limits through.0 fields (trailers_are_fields fields ends.lines) through.1 (first.wire ++ s.wire)
-    (accepted_of first ++ accepted_of s)
-    (IsChunks-behind first.wire (accepted_of first) s.wire (accepted_of s) (before.whole between) (whole.whole ends.between))
 
 -- in such calls the log only goes on
 pub ChunkingWent-grows : {S : Type 0} (trace : S → S → Type 0) (s t : ChunkedWriterState S) → ChunkingWent trace s t

@@ -49,7 +49,7 @@ module _ (limits : Limits) where
   chunked_lawful = record {
     some = omega arith;
     begins = tt;
-    alive = λ p is. let end = Completes-some limits 0 p is in (end.rest, end.payload, end.completes);
+    alive = λ p is. let end = Completes-some limits p is in (end.rest, end.payload, end.completes);
     nothing = λ p payload is c. nothing p payload c;
     never = λ p shown why rest payload is wrong c agree.
         never p wrong.0 why rest payload wrong.1 agree.0 agree.1 wrong.3 c
@@ -116,7 +116,7 @@ module _ (limits : Limits) where
       → IsPlace q → body.IsRight (chunked limits) p shown
   leads_right p q zero shown some leads place why wrong = omega (arith, some)
   leads_right p q (suc k) shown some leads place why wrong =
-      let end = Completes-some limits 0 q place in
+      let end = Completes-some limits q place in
       IsWrong-none limits p wrong.0 why (take k wrong.1 ++ end.rest) end.payload wrong.3
       (subst (λ l. Completes limits p (take (suc k) l ++ end.rest) end.payload) wrong.2
       (leads.onward end.rest end.payload (follows end.rest) end.completes))

@@ -1,21 +1,17 @@
 //! Laws, each as the contract of a function. A law assumes whole grammars and exact relations, so no fact of few words stands
 //! in front.
 ghost use Rattle.std.specs.Prelude.{◌≡◌, ℕ, ◌<◌, List, ◌++◌};
-ghost use Rattle.std.specs.List.{AllByRecursion};
 ghost use Rattle.buffer_redux.specs.Buffered.{Buffered};
 ghost use Rattle.buffer_redux.specs.declared.policy.StdPolicy.{StdPolicy};
 ghost use Rattle.body_reader.specs.BodyReader.{handed_of};
 ghost use Rattle.body_reader.specs.Given.{HandsGiven};
-ghost use Rattle.chunked.specs.Body.{IsBodyOfChunks, IsField, fields_bytes};
+ghost use Rattle.chunked.specs.Body.{IsBodyOfChunks};
 ghost use Rattle.chunked.specs.ChunkedWriter.{LetsThrough};
 ghost use Rattle.chunked.specs.Coding.{chunked};
-ghost use Rattle.chunked.specs.Place.{IsWrong};
 ghost use Rattle.chunked.specs.RoundTrip.{WroteBody};
 
 use crate::coding::ChunkedReader;
-use crate::error::Malformed;
 use crate::limits::Limits;
-use crate::place::Place;
 use crate::writer::ChunkedWriter;
 use body_reader::laws::given_body;
 use buffer_redux::policy::ReaderPolicy;
@@ -25,18 +21,6 @@ use buffer_redux::tell::{TellRead, TellWrite};
 pub fn one_body()
     ensures { (l m : Limits) (a b p q xs ys : List ℕ) → IsBodyOfChunks l a p → IsBodyOfChunks m b q → a ++ xs ≡ b ++ ys
         → (a ≡ b) × (p ≡ q) × (xs ≡ ys) }
-{}
-
-/// No trailers begin others: what bytes begin with them settles where they end, and each of their lines.
-pub fn one_list_of_fields()
-    ensures { (f g : List (List ℕ)) (xs ys : List ℕ) → AllByRecursion IsField f → AllByRecursion IsField g
-        → fields_bytes f ++ xs ≡ fields_bytes g ++ ys → (f ≡ g) × (xs ≡ ys) }
-{}
-
-/// A byte that is wrong in a place has one name.
-pub fn one_name()
-    ensures { (limits : Limits) (place : Place) (byte : ℕ) (first second : Malformed) → IsWrong limits place byte first
-        → IsWrong limits place byte second → first ≡ second }
 {}
 
 /// The bytes that were taken are right: some body begins with them. And each body that does has a payload that begins with

@@ -7,7 +7,7 @@ pub returns-clause-right : goal.returns-clause-right
 returns-clause-right g c =
     let t = c.args.reader.now in
     let is = c.get_ref.ensures.whole in
-    let goes = Completes-some t.coding.0 0 t.place is.place in
+    let goes = Completes-some t.coding.0 t.place is.place in
     (goes.rest, goes.payload, is.leads.onward goes.rest goes.payload (follows goes.rest) goes.completes)
 
 pub returns-clause-payload : goal.returns-clause-payload
