@@ -6,8 +6,6 @@ pub mod Nullable
 pub mod NullableLaws
 pub mod Resp
 pub mod RespLaws
-pub mod Strings
-pub mod StringsLaws
 pub mod TextWords
 pub mod TextWordsLaws
 pub mod Varints

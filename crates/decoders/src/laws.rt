@@ -1,18 +1,21 @@
 //! Laws of the ready decoders, each as the contract of a function.
-ghost use Rattle.std.specs.Prelude.{◌^◌, ◌<◌, List, length, ℕ};
+ghost use Rattle.std.specs.Prelude.{◌≡◌, ◌↔◌, ◌++◌, [], List, codes, ℕ};
 ghost use Rattle.codec.specs.HeaderFormat.{length_prefixed};
 ghost use Rattle.codec.specs.Scanning.{scanned};
+ghost use Rattle.codec.specs.TextHeaders.{text_scanning};
 ghost use Rattle.decoders.specs.Nullable.{nullable};
-ghost use Rattle.decoders.specs.Strings.{IsString};
+ghost use Rattle.decoders.specs.TextWords.{bulk_string, bulk_strings};
 
-use crate::nullable::NullableStrings;
+use crate::bulk_strings::BulkStrings;
 
-/// Which bytes bulk strings are, by the bytes themselves: each piece is a dollar sign, the payload's length in decimal, CR and
-/// LF, the payload, CR and LF; or `$-1`, CR and LF, whose payload is empty. And each of these is a piece, where the payload has
-/// no more than `max` bytes, and its length no more than 18 digits.
-pub fn string_bytes(strings: &NullableStrings)
-    ensures pieces { (piece payload : List ℕ) → (length_prefixed (scanned (nullable strings.now.max))).piece piece payload
-        → IsString strings.now.max piece payload }
-    ensures all { (piece payload : List ℕ) → IsString strings.now.max piece payload → length payload < 10 ^ 18
-        → (length_prefixed (scanned (nullable strings.now.max))).piece piece payload }
+/// Which bytes strings are: each of [`BulkStrings`](crate::BulkStrings) is a dollar sign, the payload's length in decimal, CR
+/// and LF, the payload, CR and LF. Of [`NullableStrings`](crate::NullableStrings) one that begins with `$-` is `$-1`, CR and
+/// LF, and its payload is empty.
+pub fn string_bytes(strings: &BulkStrings)
+    ensures bulk { (piece payload : List ℕ)
+        → (length_prefixed (scanned (text_scanning (bulk_strings strings.now.max)))).piece piece payload
+        → piece ≡ bulk_string payload }
+    ensures null { (rest payload : List ℕ)
+        → (length_prefixed (scanned (nullable strings.now.max))).piece (codes "$-" ++ rest) payload
+        ↔ ((rest ≡ codes "1\r\n") × (payload ≡ [])) }
 {}
