@@ -48,6 +48,5 @@ puts key value m n most h count = record {
   most = refl;
 }
 
--- what is the same is unchanged
-pub same_of : (old new : Values) → old ≡ new → Same old new
-same_of old new is = subst (Same old) is (record { values = λ q. refl; count = refl; most = refl })
+pub Same-refl : (values : Values) → Same values values
+Same-refl values = record { values = λ q. refl; count = refl; most = refl }

@@ -1,3 +1,2 @@
 pub mod Keys
 pub mod Deleting
-pub mod Replying

@@ -9,7 +9,8 @@ use Rattle.resp.specs.declared.command.Command.TheVariants as command
 use Rattle.resp.specs.declared.command.Name.{Name}
 use Rattle.resp.specs.declared.command.Name.TheVariants as name
 use Rattle.resp.specs.Numbers.{IsInteger}
-use Rattle.resp.specs.Replies.{bulk_reply, number_reply}
+use Rattle.decoders.specs.TextWords.{bulk_string}
+use Rattle.resp.specs.Replies.{number_reply}
 use Rattle.resp.specs.Stored.{IsFull, MayHold, Same, SetsValue, Values, counts_for}
 use Rattle.resp.specs.Waiting.{bytes_of}
 
@@ -97,9 +98,9 @@ Deletes (key ∷ keys) old n new = (between : Values) × (m : ℕ) × SetsValue 
 -- what a command does, and its reply. Memory is refused only for what might be held
 abbrev pub Acts : Values → Command → List ℕ → Values → Type 0
 Acts old command.Ping reply new = (reply ≡ codes "+PONG\r\n") × Same old new
-Acts old (command.Echo text) reply new = (reply ≡ bulk_reply text.now) × Same old new
+Acts old (command.Echo text) reply new = (reply ≡ bulk_string text.now) × Same old new
 Acts old (command.Get key) reply new =
-    MatchOption (old.value key.now) (reply ≡ codes "$-1\r\n") (λ value. reply ≡ bulk_reply value) × Same old new
+    MatchOption (old.value key.now) (reply ≡ codes "$-1\r\n") (λ value. reply ≡ bulk_string value) × Same old new
 Acts old (command.Set key value) reply new =
     ((reply ≡ codes "+OK\r\n") × MayHold key.now old × SetsValue key.now (Some value.now) old new)
     ⊎ (((reply ≡ codes "-ERR too many keys\r\n") × IsFull key.now old × Same old new)

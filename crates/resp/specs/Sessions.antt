@@ -1,5 +1,5 @@
 -- What a session does with a piece, and replies.
-use Rattle.std.specs.Prelude.{◌≡◌, ℕ, List, [], Bool, true, false, MatchBool, codes}
+use Rattle.std.specs.Prelude.{◌≡◌, ℕ, ◌⊎◌, List, [], Bool, true, false, codes}
 use Rattle.std.specs.Global.{Global}
 use Rattle.decoders.specs.declared.resp.RespItem.{RespItem}
 use Rattle.resp.specs.Commands.{Acts, Means, takes_more}
@@ -33,9 +33,10 @@ refusal_reply NoArray = codes "-ERR Protocol error: expected '*'\r\n"
 
 -- one reply to a request that is whole, after which none waits; of one that was lost nothing is done
 abbrev pub RepliesWhole : Waiting → Values → List ℕ → Bool → Waiting → Values → Type 0
-RepliesWhole m old reply more t new = (t ≡ nothing) × MatchBool m.lost
-    ((reply ≡ codes "-ERR out of memory\r\n") × (more ≡ true) × Same old new)
-    ((command : Command) × Means m.parts command × Acts old command reply new × (more ≡ takes_more command))
+RepliesWhole m old reply more t new = (t ≡ nothing)
+    × (((m.lost ≡ true) × (reply ≡ codes "-ERR out of memory\r\n") × (more ≡ true) × Same old new)
+    ⊎ ((m.lost ≡ false) × ((command : Command) × Means m.parts command × Acts old command reply new
+    × (more ≡ takes_more command))))
 
 -- what is replied behind a piece: nothing, while more of a request is to come; one reply to a whole one; and an error to what
 -- belongs to none, behind which no request waits, and no further piece is taken

@@ -1,9 +1,9 @@
 //! Replies.
-ghost use Rattle.std.specs.Prelude.{decimal, [], OnErr, OnOk};
+ghost use Rattle.std.specs.Prelude.{decimal};
 ghost use Rattle.std.specs.Fmt.{signed_decimal};
-ghost use Rattle.buffer_redux.specs.BufWriter.{WritesInOrder};
 ghost use Rattle.buffer_redux.specs.WriteParts.{WritesParts};
-ghost use Rattle.resp.specs.Replies.{bulk_reply, number_reply};
+ghost use Rattle.decoders.specs.TextWords.{bulk_string};
+ghost use Rattle.resp.specs.Replies.{number_reply};
 
 use buffer_redux::BufWriter;
 use buffer_redux::tell::TellWrite;
@@ -11,19 +11,15 @@ use itoa::Buffer;
 use std::io;
 
 /// Writes all of these bytes, or none.
-pub fn put<W: TellWrite>(writer: &mut BufWriter<W>, bytes: &[u8]) -> io::Result<()>
-    ensures taken { OnOk result (WritesInOrder writer.old bytes.now writer.new) }
-    ensures none { OnErr result (WritesInOrder writer.old [] writer.new) }
-    ensures parts { WritesParts W.log W.trace writer.old bytes.now result writer.new }
+pub(crate) fn put<W: TellWrite>(writer: &mut BufWriter<W>, bytes: &[u8]) -> io::Result<()>
+    ensures { WritesParts W.log W.trace writer.old bytes.now result writer.new }
 {
     writer.write_parts(&[bytes])
 }
 
 /// Writes a bulk string.
-pub fn put_bulk<W: TellWrite>(writer: &mut BufWriter<W>, bytes: &[u8]) -> io::Result<()>
-    ensures taken { OnOk result (WritesInOrder writer.old (bulk_reply bytes.now) writer.new) }
-    ensures none { OnErr result (WritesInOrder writer.old [] writer.new) }
-    ensures parts { WritesParts W.log W.trace writer.old (bulk_reply bytes.now) result writer.new }
+pub(crate) fn put_bulk<W: TellWrite>(writer: &mut BufWriter<W>, bytes: &[u8]) -> io::Result<()>
+    ensures { WritesParts W.log W.trace writer.old (bulk_string bytes.now) result writer.new }
 {
     let mut buffer = Buffer::new();
     let len = buffer.format(bytes.len()).as_bytes();
@@ -31,20 +27,16 @@ pub fn put_bulk<W: TellWrite>(writer: &mut BufWriter<W>, bytes: &[u8]) -> io::Re
 }
 
 /// Writes how many there are.
-pub fn put_count<W: TellWrite>(writer: &mut BufWriter<W>, count: usize) -> io::Result<()>
-    ensures taken { OnOk result (WritesInOrder writer.old (number_reply (decimal count)) writer.new) }
-    ensures none { OnErr result (WritesInOrder writer.old [] writer.new) }
-    ensures parts { WritesParts W.log W.trace writer.old (number_reply (decimal count)) result writer.new }
+pub(crate) fn put_count<W: TellWrite>(writer: &mut BufWriter<W>, count: usize) -> io::Result<()>
+    ensures { WritesParts W.log W.trace writer.old (number_reply (decimal count)) result writer.new }
 {
     let mut buffer = Buffer::new();
     put_number(writer, buffer.format(count).as_bytes())
 }
 
 /// Writes a number.
-pub fn put_signed<W: TellWrite>(writer: &mut BufWriter<W>, number: i64) -> io::Result<()>
-    ensures taken { OnOk result (WritesInOrder writer.old (number_reply (signed_decimal number)) writer.new) }
-    ensures none { OnErr result (WritesInOrder writer.old [] writer.new) }
-    ensures parts { WritesParts W.log W.trace writer.old (number_reply (signed_decimal number)) result writer.new }
+pub(crate) fn put_signed<W: TellWrite>(writer: &mut BufWriter<W>, number: i64) -> io::Result<()>
+    ensures { WritesParts W.log W.trace writer.old (number_reply (signed_decimal number)) result writer.new }
 {
     let mut buffer = Buffer::new();
     put_number(writer, buffer.format(number).as_bytes())
@@ -52,9 +44,7 @@ pub fn put_signed<W: TellWrite>(writer: &mut BufWriter<W>, number: i64) -> io::R
 
 // Writes a number, of which these are the digits.
 fn put_number<W: TellWrite>(writer: &mut BufWriter<W>, digits: &[u8]) -> io::Result<()>
-    ensures taken { OnOk result (WritesInOrder writer.old (number_reply digits.now) writer.new) }
-    ensures none { OnErr result (WritesInOrder writer.old [] writer.new) }
-    ensures parts { WritesParts W.log W.trace writer.old (number_reply digits.now) result writer.new }
+    ensures { WritesParts W.log W.trace writer.old (number_reply digits.now) result writer.new }
 {
     writer.write_parts(&[b":", digits, b"\r\n"])
 }

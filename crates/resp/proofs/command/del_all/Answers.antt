@@ -4,7 +4,7 @@ use Rattle.resp.specs.Commands.{Deletes}
 use Rattle.resp.specs.Stored.{held}
 use Rattle.resp.specs.Waiting.{bytes_of}
 use Rattle.resp.proofs.Deleting.{one_more}
-use Rattle.resp.proofs.Keys.{same_of}
+use Rattle.resp.proofs.Keys.{Same-refl}
 use Rattle.resp.proofs.command.del_all.Goals.{then-del, else-del}
 use Rattle.resp.proofs.command.del_all.Goals as goal
 
@@ -27,4 +27,4 @@ returns c =
     let none = ap bytes_of (drop_of_length-le c.args.keys.now c.loop-key-test.false) in
     let sum : c.loop-key.count + 0 ≡ c.loop-key.count = omega arith in
     subst (λ n. Deletes (bytes_of c.args.keys.now) (held c.args.store.now) n last) sum
-    (c.loop-key.invariant.rest 0 last (subst (λ l. Deletes l last 0 last) (sym none) (refl, same_of last last refl)))
+    (c.loop-key.invariant.rest 0 last (subst (λ l. Deletes l last 0 last) (sym none) (refl, Same-refl last)))

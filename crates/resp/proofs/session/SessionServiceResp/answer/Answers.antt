@@ -4,13 +4,13 @@ use Rattle.codec.specs.AnsweringLaws.{AnswersBy-answered}
 use Rattle.resp.specs.Sessions.{RepliesBy}
 use Rattle.resp.specs.Stored.{held}
 use Rattle.resp.specs.declared.request.Fed.TheVariants.{Bad, More}
-use Rattle.resp.proofs.Keys.{same_of}
+use Rattle.resp.proofs.Keys.{Same-refl}
 use Rattle.resp.proofs.session.SessionServiceResp.answer.Goals as goal
 
 pub returns-in-More : goal.returns-in-More
 returns-in-More g c =
     let values = held c.args.self.now.store in
-    ([], (More, c.take.new.self, c.in-More.ensures, (refl, refl, refl, same_of values values refl)), inr (refl, refl))
+    ([], (More, c.take.new.self, c.in-More.ensures, (refl, refl, refl, Same-refl values)), inr (refl, refl))
 
 pub returns-in-Bad : goal.returns-in-Bad
 returns-in-Bad g c =
@@ -20,6 +20,6 @@ returns-in-Bad g c =
       Bad c.in-Bad.refusal,
       c.take.new.self,
       c.in-Bad.ensures,
-      (append-nil _ ∙ c.refusal_text.ensures, refl, c.clear.ensures, same_of values values refl),
+      (append-nil _ ∙ c.refusal_text.ensures, refl, c.clear.ensures, Same-refl values),
     )
     c.write_answer.result c.write_answer.ensures.answers
