@@ -56,7 +56,7 @@ def said(head):
 
 def printed(text):
     """A text as it is printed, which ends neither a column nor a line."""
-    return re.sub(rb"[\x00-\x1f]", b"?", text)
+    return re.sub(rb"[\x00-\x1f\x7f]", b"?", text)
 
 
 def run(words, body, chance):
@@ -84,8 +84,7 @@ def is_right(boundary, body, chance):
     parts, ended, wrong = whole_parts(boundary, body)
     want = b"".join(b"\t".join(map(printed, said(head))) + b"\t%d\n" % len(text) for head, text in parts)
     out, status = run(["list", boundary], body, chance)
-    # Behind a text that is cut off stands the beginning of a line.
-    if not (out == want if ended or wrong else out.startswith(want)) or status != (0 if ended else 4 if wrong else 5):
+    if out != want or status != (0 if ended else 4 if wrong else 5):
         return False
     for head, text in parts[:1]:
         name = said(head)[0]
@@ -102,7 +101,7 @@ def random_body(chance):
     pieces = [b"\r\n", b"\r", b"\n", b"-", b"--", b"\r\n-", b"\r\n--" + boundary[:-1], b"x", b"--" + boundary, b"\x00" * 9]
     body = chance.choice([b"", b"preamble\r\n", b"\r\n"])
     for number in range(chance.randrange(4)):
-        name = chance.choice([b"n%d" % number, b"a\n\tb"])
+        name = chance.choice([b"n%d" % number, b"a\n\tb\x7f"])
         head = chance.choice([b"", b'Content-Disposition: form-data; name="%s"\r\n' % name, b"A: b\r\n"])
         text = b"".join(chance.choice(pieces) for _ in range(chance.randrange(9)))
         body += b"--" + boundary + chance.choice([b"", b" "]) + b"\r\n" + head + b"\r\n" + text + b"\r\n"

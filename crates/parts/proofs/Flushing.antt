@@ -19,20 +19,14 @@ ended_once tells trace v w (Err (Why.Write e)) last f = omega (arith, ap (λ x. 
 ended_once tells trace v w (Err y) last f = Flushes-once v w f.flush f.flushes.steps
 
 module _ {T : Type 0} (tells : T → StreamLog) (trace : T → T → Type 0) (v w : Buffered T StdPolicy) (Sent : Type 0) where
-  failed : (y : RunError) (last : Result (Unit {0}) RunError) (flush : Result (Unit {0}) Error)
-      → MatchResult flush (λ _. last ≡ Err y) (λ e. last ≡ Err (Why.Write e)) → OnOk last Sent
-  failed y last (Ok x) same = subst (λ l. OnOk l Sent) (sym same) tt
-  failed y last (Err e) same = subst (λ l. OnOk l Sent) (sym same) tt
+  at_flush : (answer last : Result (Unit {0}) RunError) (flush : Result (Unit {0}) Error) → WasFlushed tells trace v flush w
+      → MatchResult flush (λ _. last ≡ answer) (λ e. last ≡ Err (Why.Write e))
+      → (answer ≡ Ok tt → WasFlushed tells trace v (Ok tt) w → Sent) → OnOk last Sent
+  at_flush answer (Err e) flush flushes same all = tt
+  at_flush answer (Ok x) (Ok y) flushes same all = all (sym same) flushes
+  at_flush answer (Ok x) (Err e) flushes odd all = absurd (cc)
 
-  went : ((y : Unit {0}) → WasFlushed tells trace v (Ok y) w → Sent) → (x : Unit {0}) (last : Result (Unit {0}) RunError)
-      (flush : Result (Unit {0}) Error) → WasFlushed tells trace v flush w
-      → MatchResult flush (λ _. last ≡ Ok x) (λ e. last ≡ Err (Why.Write e)) → OnOk last Sent
-  went all x last (Ok y) flushes same = subst (λ l. OnOk l Sent) (sym same) (all y flushes)
-  went all x last (Err e) flushes same = subst (λ l. OnOk l Sent) (sym same) tt
-
-  pub at_done : (answer last : Result (Unit {0}) RunError)
-      → OnOk answer ((y : Unit {0}) → WasFlushed tells trace v (Ok y) w → Sent)
-      → FlushedUnless tells trace answer v last w → OnOk last Sent
-  at_done (Ok x) last all f = went all x last f.flush f.flushes f.last_is
-  at_done (Err (Why.Write e)) last all f = subst (λ l. OnOk l Sent) (sym f.0) tt
-  at_done (Err y) last all f = failed y last f.flush f.last_is
+  pub at_done : (answer last : Result (Unit {0}) RunError) → FlushedUnless tells trace answer v last w
+      → (answer ≡ Ok tt → WasFlushed tells trace v (Ok tt) w → Sent) → OnOk last Sent
+  at_done (Err (Why.Write e)) last f all = subst (λ l. OnOk l Sent) (sym f.0) tt
+  at_done answer last f all = at_flush answer last f.flush f.flushes f.last_is all

@@ -5,5 +5,4 @@ mod Meeting
 mod Parts
 mod Passing
 mod Putting
-mod Running
 mod Words

@@ -1,5 +1,5 @@
 -- What was written, some text behind some text.
-use Rattle.std.proofs.Common.{◌≡◌, ℕ, ◌^◌, ◌+◌, ◌-◌, ◌<◌, List, [], ◌∷◌, ◌++◌, length, map, take, drop, get_or, min, decimal, Option, Result, Ok, Err, ◌⊎◌, inl, inr, refl, sym, ap, subst, ◌∙◌, append_assoc}
+use Rattle.std.proofs.Common.{◌≡◌, ℕ, ◌+◌, ◌<◌, List, [], ◌∷◌, ◌++◌, length, map, take, drop, get_or, Bool, true, false, Option, Result, Ok, Err, ◌⊎◌, inl, inr, refl, sym, ap, subst, ◌∙◌}
 use Rattle.std.proofs.lemmas.List.{map-append, take-append-drop, take_more}
 use Rattle.redux_buffer.specs.Faults.{MetInterrupts-none}
 use Rattle.body_reader.specs.BodyReader.{handed_of}
@@ -7,7 +7,7 @@ use Rattle.multipart.specs.Multipart.{FormState}
 use Rattle.parts.specs.declared.error.RunError.{RunError}
 use Rattle.parts.specs.declared.error.RunError.TheVariants as Run
 use Rattle.parts.proofs.Meeting.{all_met, met_on}
-use Rattle.parts.proofs.Parts.{PartsSoFar, fails_on, in_part}
+use Rattle.parts.proofs.Parts.{PartsSoFar, all_handed, fails_on, still_inside}
 use Rattle.std.specs.declared.io.Error.{Error}
 use Rattle.buffer_redux.specs.Buffered.{Buffered}
 use Rattle.buffer_redux.specs.Policy.{std_write_rules}
@@ -15,7 +15,7 @@ use Rattle.buffer_redux.specs.StreamLog.{StreamLog}
 use Rattle.buffer_redux.specs.WriteAll.{WritesAll}
 use Rattle.buffer_redux.specs.WritesAlongLaws.{AllAlong-after, StoppedAlong-more, WritesAll-all, WritesAlong-none}
 use Rattle.buffer_redux.specs.declared.policy.StdPolicy.{StdPolicy}
-use Rattle.parts.specs.Sections.{LeftText, ListAnswers, PutsBytes, TakesText, Turn, front_of, list_line, list_lines}
+use Rattle.parts.specs.Sections.{LeavesNext, ListAnswers, ListEnds, PutsBytes, PutsWanted, TakesText, Turn, list_line, list_lines}
 
 module _ {T : Type 0} (tells : T → StreamLog) (trace : T → T → Type 0) where
   -- a write of all of a slice
@@ -53,6 +53,18 @@ module _ {T : Type 0} (tells : T → StreamLog) (trace : T → T → Type 0) whe
     unflushed = p.unflushed;
   }
 
+  -- the same of what may be wanted
+  pub wanted_none : ((x : T) → trace x x) → (wanted : Bool) (u : Buffered T StdPolicy)
+      → PutsWanted tells trace wanted u [] (Ok tt) u
+  wanted_none none true u = puts_none none u
+  wanted_none none false u = (refl, refl)
+
+  pub wanted_then : ((a b c : T) → trace a b → trace b c → trace a c) → (wanted : Bool) (u m v : Buffered T StdPolicy)
+      (said more : List ℕ) (answer : Result (Unit {0}) Error) → PutsWanted tells trace wanted u said (Ok tt) m
+      → PutsWanted tells trace wanted m more answer v → PutsWanted tells trace wanted u (said ++ more) answer v
+  wanted_then joins true u m v said more answer p q = puts_then joins u m v said more answer p q
+  wanted_then joins false u m v said more answer p q = (q.0, q.1 ∙ p.1)
+
   -- and one byte more of a text, each by this function
   pub puts_next : ((a b c : T) → trace a b → trace b c → trace a c) → (f : ℕ → ℕ) (text : List ℕ) (i : ℕ) → i < length text
       → (u m v : Buffered T StdPolicy) (answer : Result (Unit {0}) Error)
@@ -68,16 +80,6 @@ module _ {T : Type 0} (tells : T → StreamLog) (trace : T → T → Type 0) whe
       (sym (map-append f (take i text) (drop i text)) ∙ ap (map f) (take-append-drop i text))
       (puts_no_more u v (map f (take i text)) (map f (drop i text)) e p)
 
-  -- and behind the front of a line its end
-  pub puts_line : ((a b c : T) → trace a b → trace b c → trace a c) → (u m v : Buffered T StdPolicy) (before head text : List ℕ)
-      (len : ℕ) (answer : Result (Unit {0}) Error) → len ≡ min (length text) (2 ^ 64 - 1)
-      → PutsBytes tells trace u (before ++ front_of head) (Ok tt) m → PutsBytes tells trace m (decimal len ++ 10 ∷ []) answer v
-      → PutsBytes tells trace u (before ++ list_line head text) answer v
-  puts_line joins u m v before head text len answer same p q = subst (λ l. PutsBytes tells trace u l answer v)
-      (append_assoc before (front_of head) (decimal len ++ 10 ∷ [])
-      ∙ ap (λ n. before ++ (front_of head ++ (decimal n ++ 10 ∷ []))) same)
-      (puts_then joins u m v (before ++ front_of head) (decimal len ++ 10 ∷ []) answer p q)
-
   -- where no text came first, or the last ended, the lines are those up to the next boundary
   pub lines_on : {Whole : Type 0} (u v : Buffered T StdPolicy) (turns : List Turn) (came text : List ℕ)
       → (turns ≡ []) ⊎ Whole → (Whole → text ≡ came) → PutsBytes tells trace u (list_lines turns came) (Ok tt) v
@@ -88,22 +90,38 @@ module _ {T : Type 0} (tells : T → StreamLog) (trace : T → T → Type 0) whe
   lines_on u v turns came text (inr whole) same puts =
       subst (λ l. PutsBytes tells trace u (list_lines turns l) (Ok tt) v) (sym (same whole)) puts
 
--- the text of a part that was just begun wasn't taken whole
+-- behind the lines of earlier parts the text of one that was just begun was taken
 module _ {S T : Type 0} (remaining : S → Option (List ℕ)) (tells : T → StreamLog) (trace : T → T → Type 0)
-    {s m t : FormState S StdPolicy} {count : ℕ} {turn : Turn} {earlier : List Turn} {u v : Buffered T StdPolicy}
+    {s m t : FormState S StdPolicy} {count : ℕ} {turn : Turn} {earlier : List Turn} {u v v' : Buffered T StdPolicy}
     (so : PartsSoFar s count (turn ∷ earlier) m) (fresh : handed_of m.body ≡ [])
-    (wrote : PutsBytes tells trace u (list_lines earlier turn.text ++ front_of turn.head) (Ok tt) v) where
-  left : (e : RunError) → TakesText remaining m (Err e) t → LeftText tells trace s u e t v
+    (before : PutsBytes tells trace u (list_lines earlier turn.text) (Ok tt) v) where
+  -- not whole
+  pub left : (e : RunError) → TakesText remaining tells trace false m v (Err e) t v' → ListAnswers tells trace s u (Err e) t v'
   left e takes = record {
-    part = in_part remaining so takes.took;
-    fails = fails_on remaining so takes.took fresh e takes.ends;
-    puts = subst (λ r. PutsBytes tells trace u (list_lines earlier turn.text ++ front_of turn.head) r v)
-        (sym takes.no_write) wrote;
+    turns = earlier;
+    text = turn.text;
+    ends = ends e takes;
+    puts = rw (takes.puts.0, takes.puts.1) before;
   }
+    where
+      cut : (e : RunError) → TakesText remaining tells trace false m v (Err e) t v' → LeavesNext s earlier turn.text e t
+      cut e takes =
+          (turn.head, still_inside remaining so takes.took, fails_on remaining so takes.took fresh e takes.ends)
 
-  pub len_fails : (e : RunError) → TakesText remaining m (Err e) t → ListAnswers tells trace s u (Err e) t v
-  len_fails (Run.Body w) takes = left (Run.Body w) takes
-  len_fails Run.Many takes = inl (left Run.Many takes)
-  len_fails (Run.Write e) takes = absurd (let odd = takes.no_write in cc)
-  len_fails (Run.Parts w) takes = absurd takes.ends
-  len_fails Run.Missing takes = absurd takes.ends
+      ends : (e : RunError) → TakesText remaining tells trace false m v (Err e) t v' → ListEnds s earlier turn.text (Err e) t
+      ends (Run.Body w) takes = inr (cut (Run.Body w) takes)
+      ends Run.Many takes = inr (cut Run.Many takes)
+      ends (Run.Write x) takes = absurd (let odd = takes.puts.0 in cc)
+      ends (Run.Parts w) takes = absurd takes.ends
+      ends Run.Missing takes = absurd takes.ends
+
+  -- or whole, and then its line was written, or a beginning
+  module _ (joins : (a b c : T) → trace a b → trace b c → trace a c) {len : ℕ}
+      (takes : TakesText remaining tells trace false m v (Ok len) t v') where
+    pub lined : {answer : Result (Unit {0}) Error} {w : Buffered T StdPolicy}
+        → PutsBytes tells trace v' (list_line turn.head len) answer w
+        → PutsBytes tells trace u (list_lines (turn ∷ earlier) (handed_of t.body)) answer w
+    lined {answer} {w} line =
+        let text = all_handed remaining so takes.took fresh in
+        puts_then tells trace joins u v w (list_lines earlier turn.text) _ answer before
+        (rw (takes.puts.1, takes.len, text) at line)

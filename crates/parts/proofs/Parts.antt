@@ -14,7 +14,7 @@ use Rattle.multipart.specs.Multipart.{FormState, NextPart, codes}
 use Rattle.buffer_redux.specs.StreamLog.{StreamLog}
 use Rattle.parts.specs.declared.error.RunError.{RunError}
 use Rattle.parts.specs.declared.error.RunError.TheVariants as Run
-use Rattle.parts.specs.Sections.{GetAnswers, InPart, InText, SaysName, NextFails, NoneNamed, PassedAll, PutsBytes, PutsPart, TextEnds, TextFails, TookText, Turn, WroteNamed, written}
+use Rattle.parts.specs.Sections.{InText, InTurns, SaysName, NextFails, NoneNamed, PassedAll, PutsBytes, TakesText, TextEnds, TextFails, TookText, Turn, WroteNamed, written}
 use Rattle.parts.proofs.Passing.{ComesBehind, inside_on, next_comes}
 
 -- so many parts began
@@ -83,15 +83,17 @@ module _ {S : Type 0} (remaining : S → Option (List ℕ)) {s m : FormState S S
 
   -- taking text stays in the part
   module _ {t : FormState S StdPolicy} {payload : List ℕ} (took : TookText remaining m payload t) where
-    pub still_inside : InText s.body.coding s.other s.body.reader turns so.before t
-    still_inside = inside_on remaining s.body.coding s.other s.body.reader turns so.before m t payload so.inside took.within
-        took.went
+    abbrev pub still_inside : InTurns s turns t
+    still_inside = (
+      so.before,
+      inside_on remaining s.body.coding s.other s.body.reader turns so.before m t payload so.inside took.within took.went,
+    )
 
     pub parts_on : EachGave m.body.reader t.body.reader → PartsSoFar s count turns t
     parts_on gave = record {
       before = so.before;
       many = so.many;
-      inside = still_inside;
+      inside = still_inside.1;
       gave = EachGave-joins s.body.reader m.body.reader t.body.reader so.gave gave;
       limits = ap (λ x. x.limits) took.within ∙ so.limits;
     }
@@ -120,31 +122,19 @@ module _ {S : Type 0} (remaining : S → Option (List ℕ)) {s m : FormState S S
       )
       ends_on (Err e) fails = fails_on e fails
 
--- in the last of them
-abbrev pub in_part : {S : Type 0} (remaining : S → Option (List ℕ)) {s m t : FormState S StdPolicy} {count : ℕ} {turn : Turn}
-    {earlier : List Turn} {payload : List ℕ} (so : PartsSoFar s count (turn ∷ earlier) m)
-    → TookText remaining m payload t → InPart s t
-in_part remaining so took =
-    record { turn = _; earlier = _; before = so.before; inside = still_inside remaining so took }
-
 -- the text of a part that was just begun was written
-module _ {S T : Type 0} (remaining : S → Option (List ℕ)) (tells : T → StreamLog) (trace : T → T → Type 0) {name : List ℕ}
+pub wrote : {S T : Type 0} (remaining : S → Option (List ℕ)) (tells : T → StreamLog) (trace : T → T → Type 0) {name : List ℕ}
     {s m t : FormState S StdPolicy} {count : ℕ} {turn : Turn} {earlier : List Turn} {u v : Buffered T StdPolicy}
-    (so : PartsSoFar s count (turn ∷ earlier) m) (fresh : handed_of m.body ≡ []) (named : SaysName name turn.head)
-    (none : NoneNamed name earlier) where
-  wrote : (answer : Result (Unit {0}) RunError) → PutsPart remaining tells trace m u answer t v
-      → WroteNamed tells trace name s u answer t v
-  wrote answer puts = record {
-    named = record { part = in_part remaining so puts.took; named = named; first = none };
-    ends = ends_on remaining so puts.took fresh answer puts.ends;
-    puts = subst (λ l. PutsBytes tells trace u l (written answer) v) (all_handed remaining so puts.took fresh) puts.puts;
-  }
-
-  pub put_comes : (answer : Result (Unit {0}) RunError) → PutsPart remaining tells trace m u answer t v
-      → GetAnswers tells trace name s u answer t v
-  put_comes (Ok x) puts = wrote (Ok x) puts
-  put_comes (Err (Run.Body w)) puts = wrote (Err (Run.Body w)) puts
-  put_comes (Err (Run.Write e)) puts = wrote (Err (Run.Write e)) puts
-  put_comes (Err Run.Many) puts = inl (wrote (Err Run.Many) puts)
-  put_comes (Err (Run.Parts w)) puts = absurd puts.ends
-  put_comes (Err Run.Missing) puts = absurd puts.ends
+    {answer : Result ℕ RunError} → PartsSoFar s count (turn ∷ earlier) m → handed_of m.body ≡ [] → SaysName name turn.head
+    → NoneNamed name earlier → TakesText remaining tells trace true m u answer t v → WroteNamed tells trace name s u answer t v
+wrote remaining tells trace {u = u} {v = v} {answer = answer} so fresh named none takes = record {
+  named = record {
+    turn = _;
+    earlier = _;
+    inside = still_inside remaining so takes.took;
+    named = named;
+    first = none;
+  };
+  ends = ends_on remaining so takes.took fresh answer takes.ends;
+  puts = subst (λ l. PutsBytes tells trace u l (written answer) v) (all_handed remaining so takes.took fresh) takes.puts;
+}

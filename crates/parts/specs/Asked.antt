@@ -1,9 +1,10 @@
 -- What a run does that words ask for.
-use Rattle.std.specs.Prelude.{◌≡◌, ◌<◌, ◌≤◌, ◌+◌, ◌⊎◌, ℕ, List, [], ◌∷◌, ◌++◌, codes as text_codes, length, false, Option, Result, Err, OnOk, MatchResult}
+use Rattle.std.specs.Prelude.{◌≡◌, ◌<◌, ◌≤◌, ◌+◌, ◌⊎◌, ℕ, List, [], ◌∷◌, ◌++◌, codes as text_codes, length, false, Option, None, Some, Result, Err, OnOk, MatchResult}
 use Rattle.std.specs.declared.io.Error.{Error}
 use Rattle.redux_buffer.specs.Faults.{MetInterrupts}
 use Rattle.body_reader.specs.Coding.{IsBody}
 use Rattle.body_reader.specs.declared.just_or_until.JustOrUntil.{JustOrUntil}
+use Rattle.buffer_redux.specs.Block.{IsNew, Plain}
 use Rattle.buffer_redux.specs.BufWriter.{WasFlushed}
 use Rattle.buffer_redux.specs.Buffered.{Buffered}
 use Rattle.buffer_redux.specs.StreamLog.{StreamLog}
@@ -35,6 +36,11 @@ pub record IsBoundary (boundary : List ℕ) : Type 0 where
 pub record NoneAsked (words : List (List ℕ)) : Type 0 where
   pub list : (boundary : List ℕ) → IsBoundary boundary → ¬ (words ≡ list_words boundary)
   pub get : (boundary name : List ℕ) → IsBoundary boundary → ¬ (words ≡ get_words boundary name)
+
+-- these words ask for the list, or for the part of this name
+abbrev pub Asks : List (List ℕ) → List ℕ → Option (List ℕ) → Type 0
+Asks words boundary None = words ≡ list_words boundary
+Asks words boundary (Some name) = words ≡ get_words boundary name
 
 -- the limits of a run: heads of 16384 bytes, and so many parts
 abbrev pub run_limits : Limits
@@ -101,33 +107,10 @@ module _ {T : Type 0} (tells : T → StreamLog) (trace : T → T → Type 0) whe
     pub written_to : written' ≡ w.log
     pub ends : EndsAs last ending
 
-module _ {S T : Type 0} (tells : T → StreamLog) (trace : T → T → Type 0)
-    (Answers : FormState S StdPolicy → Buffered T StdPolicy → Result (Unit {0}) RunError → FormState S StdPolicy
-    → Buffered T StdPolicy → Type 0)
-    (Sent : JustOrUntil → JustOrUntil → StreamLog → StreamLog → StreamLog → StreamLog → Type 0) where
-  -- what a run did of which this comes, and that ended so: at Done so much was sent. The writer was flushed once at most
-  pub record DidSo (s : FormState S StdPolicy) (u : Buffered T StdPolicy) (ending : Ending) (read' written' : StreamLog)
-      : Type 0 where
-    pub answer : Result (Unit {0}) RunError
-    pub t : FormState S StdPolicy
-    pub v : Buffered T StdPolicy
-    pub did : Answers s u answer t v
-    pub read_to : read' ≡ t.body.reader.log
-    pub over : WasEnded tells trace answer v ending written'
-    pub once : written'.writes.flushes ≤ u.log.writes.flushes + 1
-    pub sent : OnOk over.last (Sent s.body.coding s.other s.body.reader.log read' u.log written')
-
-  -- the same of a body with this boundary from the streams on, through buffers that are empty at first
-  pub record RanSo (boundary : List ℕ) (ending : Ending) (read read' written written' : StreamLog) : Type 0 where
-    pub s : FormState S StdPolicy
-    pub u : Buffered T StdPolicy
-    pub begun : IsBegun s.body.reader boundary run_limits s
-    pub codings : AreCodings false s.body.coding s.other
-    pub none_read : s.body.reader.block.bytes ≡ []
-    pub none_written : u.block.bytes ≡ []
-    pub read_from : s.body.reader.log ≡ read
-    pub written_from : u.log ≡ written
-    pub did : DidSo s u ending read' written'
+-- what was sent of a body of which all was done: the lines of its parts, or the text of the first of this name
+abbrev pub RunSent : Option (List ℕ) → JustOrUntil → JustOrUntil → StreamLog → StreamLog → StreamLog → StreamLog → Type 0
+RunSent None = ListedAll
+RunSent (Some name) = GotPart name
 
 -- the buffers of a run were refused
 pub record RanNot (ending : Ending) (read read' written written' : StreamLog) : Type 0 where
@@ -136,24 +119,41 @@ pub record RanNot (ending : Ending) (read read' written written' : StreamLog) : 
   pub written_same : written' ≡ written
 
 module _ {S T : Type 0} (remaining : S → Option (List ℕ)) (tells : T → StreamLog) (trace : T → T → Type 0) where
-  -- a run that wanted a part of a name: at Done the text of the first went over
-  abbrev pub GetDid : List ℕ → FormState S StdPolicy → Buffered T StdPolicy → Ending → StreamLog → StreamLog → Type 0
-  GetDid name = DidSo tells trace (GetAnswers tells trace name) (GotPart name)
+  -- what comes of listing the parts, or of writing the text of the first of this name
+  abbrev pub RunAnswers : Option (List ℕ) → FormState S StdPolicy → Buffered T StdPolicy → Result (Unit {0}) RunError
+      → FormState S StdPolicy → Buffered T StdPolicy → Type 0
+  RunAnswers None = ListAnswers tells trace
+  RunAnswers (Some name) = GetAnswers tells trace name
 
-  abbrev pub GetRan : List ℕ → List ℕ → Ending → StreamLog → StreamLog → StreamLog → StreamLog → Type 0
-  GetRan name = RanSo {S = S} tells trace (GetAnswers tells trace name) (GotPart name)
+  -- what a run did of which that comes, and that ended so: at Done that was sent. The writer was flushed once at most
+  pub record DidSo (name : Option (List ℕ)) (s : FormState S StdPolicy) (u : Buffered T StdPolicy) (ending : Ending)
+      (read' written' : StreamLog) : Type 0 where
+    pub answer : Result (Unit {0}) RunError
+    pub t : FormState S StdPolicy
+    pub v : Buffered T StdPolicy
+    pub did : RunAnswers name s u answer t v
+    pub read_to : read' ≡ t.body.reader.log
+    pub over : WasEnded tells trace answer v ending written'
+    pub once : written'.writes.flushes ≤ u.log.writes.flushes + 1
+    pub sent : OnOk over.last (RunSent name s.body.coding s.other s.body.reader.log read' u.log written')
 
-  -- a run that listed the parts: at Done all of the body was passed, and the lines of all parts went over
-  abbrev pub ListDid : FormState S StdPolicy → Buffered T StdPolicy → Ending → StreamLog → StreamLog → Type 0
-  ListDid = DidSo tells trace (ListAnswers tells trace) ListedAll
+  -- the same of a body with this boundary from the streams on, through plain buffers of 16384 bytes, which are empty at first
+  pub record RanSo (name : Option (List ℕ)) (boundary : List ℕ) (ending : Ending) (read read' written written' : StreamLog)
+      : Type 0 where
+    pub s : FormState S StdPolicy
+    pub u : Buffered T StdPolicy
+    pub begun : IsBegun s.body.reader boundary run_limits s
+    pub codings : AreCodings false s.body.coding s.other
+    pub source : IsNew Plain 16384 s.body.reader.block
+    pub target : IsNew Plain 16384 u.block
+    pub read_from : s.body.reader.log ≡ read
+    pub written_from : u.log ≡ written
+    pub did : DidSo name s u ending read' written'
 
-  abbrev pub ListRan : List ℕ → Ending → StreamLog → StreamLog → StreamLog → StreamLog → Type 0
-  ListRan = RanSo {S = S} tells trace (ListAnswers tells trace) ListedAll
-
-  -- what a run did that these words asked for, and that ended so; other words call no stream
-  pub record RunDid (words : List (List ℕ)) (ending : Ending) (read read' written written' : StreamLog) : Type 0 where
-    pub usage : NoneAsked words → (ending ≡ Usual Usage) × (read' ≡ read) × (written' ≡ written)
-    pub list : (boundary : List ℕ) → IsBoundary boundary → words ≡ list_words boundary
-        → RanNot ending read read' written written' ⊎ ListRan boundary ending read read' written written'
-    pub get : (boundary name : List ℕ) → IsBoundary boundary → words ≡ get_words boundary name
-        → RanNot ending read read' written written' ⊎ GetRan name boundary ending read read' written written'
+  -- what a run did, and that it ended so: these words ask for nothing, and no stream was called; or they do, and the buffers were
+  -- refused, or it did that
+  abbrev pub RunDid : List (List ℕ) → Ending → StreamLog → StreamLog → StreamLog → StreamLog → Type 0
+  RunDid words ending read read' written written' =
+      (NoneAsked words × (ending ≡ Usual Usage) × (read' ≡ read) × (written' ≡ written))
+      ⊎ ((boundary : List ℕ) × (name : Option (List ℕ)) × IsBoundary boundary × Asks words boundary name
+      × (RanNot ending read read' written written' ⊎ RanSo name boundary ending read read' written written'))

@@ -4,7 +4,7 @@ use Rattle.std.specs.declared.io.Error.{Error}
 use Rattle.std.specs.declared.io.ErrorKind.TheVariants.{Other}
 use Rattle.multipart.specs.declared.error.PartError.{PartError}
 use Rattle.multipart.specs.declared.error.PartError.TheVariants as part
-use Rattle.std.specs.Prelude.{◌≡◌, ◌≢◌, ℕ, ◌^◌, ◌+◌, ◌-◌, ◌<◌, ◌≤◌, ◌⊎◌, List, [], ◌∷◌, ◌++◌, length, min, take, All, codes as text_codes, decimal, if◌then◌else◌, map, unwrap_or, Option, Some, Result, Ok, Err, IfErr, IfOk, MatchResult, OnOk}
+use Rattle.std.specs.Prelude.{◌≡◌, ◌≢◌, ℕ, ◌^◌, ◌+◌, ◌-◌, ◌<◌, ◌≤◌, ◌⊎◌, List, [], ◌∷◌, ◌++◌, length, min, take, All, codes as text_codes, decimal, if◌then◌else◌, map, unwrap_or, Bool, true, false, Option, Some, Result, Ok, Err, IfOk, MatchResult, OnOk}
 use Rattle.std.specs.Char.{is_ascii_control}
 use Rattle.std.specs.Option.{option_and_then}
 use Rattle.redux_buffer.specs.Faults.{MetInterrupts}
@@ -49,19 +49,15 @@ printed byte = if is_ascii_control byte then 63 else byte
 abbrev pub column : Option (List ℕ) → List ℕ
 column said = map printed (unwrap_or said (text_codes "-")) ++ 9 ∷ []
 
--- the front of a part's line: its name, its file's name and its type, as its head says them
-abbrev pub front_of : List ℕ → List ℕ
-front_of head = column (said_of (text_codes "name") head) ++ (column (said_of (text_codes "filename") head)
-    ++ column (field_of head (text_codes "Content-Type")))
+-- a part's line: its name, its file's name and its type, as its head says them, and this length
+abbrev pub list_line : List ℕ → ℕ → List ℕ
+list_line head len = column (said_of (text_codes "name") head) ++ (column (said_of (text_codes "filename") head)
+    ++ (column (field_of head (text_codes "Content-Type")) ++ (decimal len ++ 10 ∷ [])))
 
--- a part's line: that, and the length of its text, as far as a `u64` counts
-abbrev pub list_line : List ℕ → List ℕ → List ℕ
-list_line head text = front_of head ++ (decimal (min (length text) (2 ^ 64 - 1)) ++ 10 ∷ [])
-
--- the lines of the parts, of which the last stands first, and has this text
+-- the lines of the parts, of which the last stands first, and has this text. A length is told as far as a `u64` counts
 abbrev pub list_lines : List Turn → List ℕ → List ℕ
 list_lines [] text = []
-list_lines (turn ∷ earlier) text = list_lines earlier turn.text ++ list_line turn.head text
+list_lines (turn ∷ earlier) text = list_lines earlier turn.text ++ list_line turn.head (min (length text) (2 ^ 64 - 1))
 
 module _ (texts heads : JustOrUntil) where
   -- a head that says this, and leads into a part
@@ -124,18 +120,26 @@ module _ (texts heads : JustOrUntil) where
       NextFails limits e t = InHead t × RefusesPiece texts.until.delimiter (head_most limits (length turns)) (handed_of t.body)
           (take t.body.known t.body.reader.block.bytes) e
 
--- in a part, to which the bytes before it lead
-pub record InPart {S : Type 0} (s t : FormState S StdPolicy) : Type 0 where
-  pub turn : Turn
-  pub earlier : List Turn
-  pub before : List ℕ
-  pub inside : InText s.body.coding s.other s.body.reader (turn ∷ earlier) before t
+-- in the last of these parts, or before the first
+abbrev pub InTurns : {S : Type 0} → FormState S StdPolicy → List Turn → FormState S StdPolicy → Type 0
+InTurns s turns t = (before : List ℕ) × InText s.body.coding s.other s.body.reader turns before t
 
 -- in the first part of this name
 pub record InNamed {S : Type 0} (name : List ℕ) (s t : FormState S StdPolicy) : Type 0 where
-  pub part : InPart s t
-  pub named : SaysName name part.turn.head
-  pub first : NoneNamed name part.earlier
+  pub turn : Turn
+  pub earlier : List Turn
+  pub inside : InTurns s (turn ∷ earlier) t
+  pub named : SaysName name turn.head
+  pub first : NoneNamed name earlier
+
+-- why no part was begun behind these, of which the last has this text: there is none, or that failed, or there are as many as a
+-- run counts
+abbrev pub NoneBegins : {S : Type 0} → FormState S StdPolicy → List Turn → List ℕ → RunError → FormState S StdPolicy → Type 0
+NoneBegins s turns text Missing t = PassedAll s.body.coding s.other s.body.reader turns text t.body.reader
+NoneBegins s turns text (Parts why) t = NextFails s.body.coding s.other s.body.reader turns text s.limits why t
+NoneBegins s turns text Many t = InTurns s turns t × EachGave s.body.reader t.body.reader × (2 ^ 64 ≤ length turns + 1)
+    × (text ≡ handed_of t.body)
+NoneBegins s turns text why t = ⊥
 
 module _ {T : Type 0} (tells : T → StreamLog) (trace : T → T → Type 0) where
   -- this was accepted, and no write failed but that some were interrupted; or a beginning of it before the writer failed. The
@@ -145,6 +149,11 @@ module _ {T : Type 0} (tells : T → StreamLog) (trace : T → T → Type 0) whe
     pub all : AllAlong tells trace std_write_rules u said answer v
     pub met : OnOk answer (MetInterrupts u.log.writes v.log.writes)
     pub unflushed : v.log.writes.flushes ≡ u.log.writes.flushes
+
+  -- that, if it is wanted; else the writer wasn't called
+  abbrev pub PutsWanted : Bool → Buffered T StdPolicy → List ℕ → Result (Unit {0}) Error → Buffered T StdPolicy → Type 0
+  PutsWanted true u said answer v = PutsBytes u said answer v
+  PutsWanted false u said answer v = (answer ≡ Ok tt) × (v ≡ u)
 
 -- how the writes went before a run failed so, and before this answer
 abbrev pub written_at : RunError → Result (Unit {0}) Error
@@ -160,14 +169,15 @@ abbrev pub TextFails : {S : Type 0} → FormState S StdPolicy → List ℕ → R
 TextFails s payload (Body why) t = NoPayload (codes s.body.coding) s.body why t.body
 TextFails s payload (Write e) t = EachGave s.body.reader t.body.reader
 TextFails s payload Many t = EachGave s.body.reader t.body.reader × (2 ^ 64 ≤ length payload + 1)
-TextFails s payload (Parts why) t = ⊥
-TextFails s payload Missing t = ⊥
+TextFails s payload why t = ⊥
+
+-- all of it was taken
+abbrev pub TextWhole : {S : Type 0} → FormState S StdPolicy → FormState S StdPolicy → Type 0
+TextWhole s t = TookWholeBody (codes s.body.coding) t.body × EachGave s.body.reader t.body.reader
 
 -- at Ok it was
 abbrev pub TextEnds : {S A : Type 0} → FormState S StdPolicy → List ℕ → Result A RunError → FormState S StdPolicy → Type 0
-TextEnds s payload answer t = MatchResult answer
-    (λ _. TookWholeBody (codes s.body.coding) t.body × EachGave s.body.reader t.body.reader)
-    (λ why. TextFails s payload why t)
+TextEnds s payload answer t = MatchResult answer (λ _. TextWhole s t) (λ why. TextFails s payload why t)
 
 module _ {S : Type 0} (remaining : S → Option (List ℕ)) where
   -- so much of the text of the part was taken
@@ -175,27 +185,44 @@ module _ {S : Type 0} (remaining : S → Option (List ℕ)) where
     pub within : t ≡ record s { body = t.body }
     pub went : BodyWent remaining std_read_rules (codes s.body.coding) s.body payload t.body
 
-  -- the text of the part was taken: its length is this, as far as a `u64` counts
-  pub record TakesText (s : FormState S StdPolicy) (answer : Result ℕ RunError) (t : FormState S StdPolicy) : Type 0 where
-    pub payload : List ℕ
-    pub took : TookText s payload t
-    pub ends : TextEnds s payload answer t
-    pub len : IfOk answer (λ len. len ≡ min (length payload) (2 ^ 64 - 1))
-    pub no_write : IfErr answer (λ why. written_at why ≡ Ok tt)
-
-  module _ {T : Type 0} (tells : T → StreamLog) (trace : T → T → Type 0) where
-    -- the text of the part was written: all that came of it was accepted, unless a write failed
-    pub record PutsPart (s : FormState S StdPolicy) (u : Buffered T StdPolicy) (answer : Result (Unit {0}) RunError)
+  module _ {T : Type 0} (tells : T → StreamLog) (trace : T → T → Type 0) (wanted : Bool) where
+    -- the text of the part was taken, and its length is this, as far as a `u64` counts; if it is wanted, all that came of it was
+    -- accepted, unless a write failed
+    pub record TakesText (s : FormState S StdPolicy) (u : Buffered T StdPolicy) (answer : Result ℕ RunError)
         (t : FormState S StdPolicy) (v : Buffered T StdPolicy) : Type 0 where
       pub payload : List ℕ
       pub took : TookText s payload t
       pub ends : TextEnds s payload answer t
-      pub puts : PutsBytes tells trace u payload (written answer) v
+      pub len : IfOk answer (λ len. len ≡ min (length payload) (2 ^ 64 - 1))
+      pub puts : PutsWanted tells trace wanted u payload (written answer) v
+
+-- no part of this name was begun, for this reason
+pub record FoundNone {S : Type 0} (name : List ℕ) (s : FormState S StdPolicy) (why : RunError) (t : FormState S StdPolicy)
+    : Type 0 where
+  pub turns : List Turn
+  pub text : List ℕ
+  pub none : NoneNamed name turns
+  pub stops : NoneBegins s turns text why t
+
+-- the text of the part behind these, of which the last has this text, wasn't taken whole
+abbrev pub LeavesNext : {S : Type 0} → FormState S StdPolicy → List Turn → List ℕ → RunError → FormState S StdPolicy → Type 0
+LeavesNext s turns text why t = (head : List ℕ) × InTurns s (record { text = text; head = head } ∷ turns) t
+    × TextFails s (handed_of t.body) why t
+
+-- how a list of these parts ended, of which the last has this text: all were passed; or their lines weren't all written; or there
+-- is a cause why no part was begun behind them, or the text of one was left
+abbrev pub ListEnds : {S : Type 0} → FormState S StdPolicy → List Turn → List ℕ → Result (Unit {0}) RunError
+    → FormState S StdPolicy → Type 0
+ListEnds s turns text (Ok x) t = PassedAll s.body.coding s.other s.body.reader turns text t.body.reader
+ListEnds s turns text (Err (Write e)) t =
+    InTurns s turns t × (0 < length turns) × TextWhole s t × (text ≡ handed_of t.body)
+ListEnds s turns text (Err Missing) t = ⊥
+ListEnds s turns text (Err why) t = NoneBegins s turns text why t ⊎ LeavesNext s turns text why t
 
 module _ {S T : Type 0} (tells : T → StreamLog) (trace : T → T → Type 0) where
   -- the text of the first part of this name was written
-  pub record WroteNamed (name : List ℕ) (s : FormState S StdPolicy) (u : Buffered T StdPolicy)
-      (answer : Result (Unit {0}) RunError) (t : FormState S StdPolicy) (v : Buffered T StdPolicy) : Type 0 where
+  pub record WroteNamed {A : Type 0} (name : List ℕ) (s : FormState S StdPolicy) (u : Buffered T StdPolicy)
+      (answer : Result A RunError) (t : FormState S StdPolicy) (v : Buffered T StdPolicy) : Type 0 where
     pub named : InNamed name s t
     pub ends : TextEnds s (handed_of t.body) answer t
     pub puts : PutsBytes tells trace u (handed_of t.body) (written answer) v
@@ -203,38 +230,13 @@ module _ {S T : Type 0} (tells : T → StreamLog) (trace : T → T → Type 0) w
   -- what comes of writing the text of the first part of this name, from before the first boundary on
   abbrev pub GetAnswers : List ℕ → FormState S StdPolicy → Buffered T StdPolicy → Result (Unit {0}) RunError
       → FormState S StdPolicy → Buffered T StdPolicy → Type 0
-  GetAnswers name s u (Err Missing) t v = (turns : List Turn) × (text : List ℕ)
-      × PassedAll s.body.coding s.other s.body.reader turns text t.body.reader × NoneNamed name turns × (v ≡ u)
-  GetAnswers name s u (Err (Parts why)) t v = (turns : List Turn) × (text : List ℕ)
-      × NextFails s.body.coding s.other s.body.reader turns text s.limits why t × NoneNamed name turns × (v ≡ u)
-  GetAnswers name s u (Err Many) t v = WroteNamed name s u (Err Many) t v
-      ⊎ ((turns : List Turn) × (before : List ℕ) × (2 ^ 64 ≤ length turns + 1) × NoneNamed name turns
-      × InText s.body.coding s.other s.body.reader turns before t × EachGave s.body.reader t.body.reader × (v ≡ u))
-  GetAnswers name s u answer t v = WroteNamed name s u answer t v
+  GetAnswers name s u answer t v = ((why : RunError) × (answer ≡ Err why) × FoundNone name s why t × (v ≡ u))
+      ⊎ WroteNamed name s u answer t v
 
-  -- the text of a part wasn't taken, or not whole: the lines of the parts before it were written, and the front of its own
-  pub record LeftText (s : FormState S StdPolicy) (u : Buffered T StdPolicy) (e : RunError) (t : FormState S StdPolicy)
-      (v : Buffered T StdPolicy) : Type 0 where
-    pub part : InPart s t
-    pub fails : TextFails s (handed_of t.body) e t
-    pub puts : PutsBytes tells trace u (list_lines part.earlier part.turn.text ++ front_of part.turn.head) (written_at e) v
-
-  -- what comes of listing the parts, from before the first boundary on: the lines of all parts that were passed, and of one that
-  -- wasn't the front
-  abbrev pub ListAnswers : FormState S StdPolicy → Buffered T StdPolicy → Result (Unit {0}) RunError
-      → FormState S StdPolicy → Buffered T StdPolicy → Type 0
-  ListAnswers s u (Ok x) t v = (turns : List Turn) × (text : List ℕ)
-      × PassedAll s.body.coding s.other s.body.reader turns text t.body.reader
-      × PutsBytes tells trace u (list_lines turns text) (Ok x) v
-  ListAnswers s u (Err (Parts why)) t v = (turns : List Turn) × (text : List ℕ)
-      × NextFails s.body.coding s.other s.body.reader turns text s.limits why t
-      × PutsBytes tells trace u (list_lines turns text) (Ok tt) v
-  ListAnswers s u (Err (Body why)) t v = LeftText s u (Body why) t v
-  ListAnswers s u (Err (Write e)) t v = LeftText s u (Write e) t v
-      ⊎ ((in_part : InPart s t) × TookWholeBody (codes s.body.coding) t.body × EachGave s.body.reader t.body.reader
-      × PutsBytes tells trace u (list_lines (in_part.turn ∷ in_part.earlier) (handed_of t.body)) (Err e) v)
-  ListAnswers s u (Err Many) t v = LeftText s u Many t v
-      ⊎ ((turns : List Turn) × (before : List ℕ) × (2 ^ 64 ≤ length turns + 1)
-      × InText s.body.coding s.other s.body.reader turns before t × EachGave s.body.reader t.body.reader
-      × PutsBytes tells trace u (list_lines turns (handed_of t.body)) (Ok tt) v)
-  ListAnswers s u (Err Missing) t v = ⊥
+  -- what comes of listing the parts, from before the first boundary on: the lines of these
+  pub record ListAnswers (s : FormState S StdPolicy) (u : Buffered T StdPolicy) (answer : Result (Unit {0}) RunError)
+      (t : FormState S StdPolicy) (v : Buffered T StdPolicy) : Type 0 where
+    pub turns : List Turn
+    pub text : List ℕ
+    pub ends : ListEnds s turns text answer t
+    pub puts : PutsBytes tells trace u (list_lines turns text) (written answer) v

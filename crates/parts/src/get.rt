@@ -1,13 +1,13 @@
 //! The text of one part, over any two streams that tell.
 ghost use Rattle.std.specs.Prelude.{◌≡◌, ◌↔◌, [], IsTrue};
 ghost use Rattle.std.specs.Option.{option_copied};
-ghost use Rattle.parts.specs.Sections.{GetAnswers, SaysName, PutsPart, said_of};
+ghost use Rattle.parts.specs.Sections.{GetAnswers, SaysName, said_of};
 
 use crate::error::RunError;
+use crate::text::take_text;
 use buffer_redux::BufWriter;
 use buffer_redux::tell::{TellRead, TellWrite};
 use multipart::{Multipart, Stand, field, parameter};
-use std::io::Write;
 
 /// Writes the text of the first part of this name.
 pub(crate) fn get<R: TellRead, W: TellWrite>(
@@ -25,7 +25,8 @@ pub(crate) fn get<R: TellRead, W: TellWrite>(
             return Err(RunError::Missing);
         }
         if is_named(parts.head(), name) {
-            return put_text(parts, target);
+            take_text(parts, true, target)?;
+            return Ok(());
         }
     }
     Err(RunError::Many)
@@ -46,26 +47,4 @@ pub(crate) fn said<'a>(head: &'a [u8], name: &[u8]) -> Option<&'a [u8]>
     ensures { option_copied result ≡ said_of name.now head.now }
 {
     parameter(field(head, b"Content-Disposition")?, name)
-}
-
-// Writes the text of the part. A piece that the writer took no more than a beginning of is consumed.
-fn put_text<R: TellRead, W: TellWrite>(
-    parts: &mut Multipart<R>,
-    target: &mut BufWriter<W>,
-) -> Result<(), RunError>
-    requires { parts.old.stand ≡ Stand.Part }
-    ensures { PutsPart R.remaining W.log W.trace parts.old target.old result parts.new target.new }
-{
-    // Says that the reader of the text is whole.
-    let _ = parts.get_ref();
-    for _piece in 0..u64::MAX {
-        let count = parts.fill()?;
-        if count == 0 {
-            return Ok(());
-        }
-        let answer = target.write_all(parts.piece());
-        parts.consume(count);
-        answer?;
-    }
-    Err(RunError::Many)
 }

@@ -1,10 +1,11 @@
 //! What the parts are, over any two streams that tell.
-ghost use Rattle.std.specs.Prelude.{◌≡◌, [], ◌∷◌, ◌++◌, codes, decimal, map, unwrap_or};
+ghost use Rattle.std.specs.Prelude.{◌≡◌, [], codes, map, unwrap_or};
 ghost use Rattle.std.specs.Option.{option_copied};
-ghost use Rattle.parts.specs.Sections.{ListAnswers, PutsBytes, TakesText, column, front_of, printed};
+ghost use Rattle.parts.specs.Sections.{ListAnswers, PutsBytes, column, list_line, printed};
 
 use crate::error::RunError;
 use crate::get::said;
+use crate::text::take_text;
 use buffer_redux::BufWriter;
 use buffer_redux::tell::{TellRead, TellWrite};
 use multipart::{Multipart, Stand, field};
@@ -25,20 +26,22 @@ pub(crate) fn list<R: TellRead, W: TellWrite>(
         if !parts.next_part()? {
             return Ok(());
         }
-        put_said(parts.head(), target)?;
-        let len = text_len(parts)?;
-        put_len(len, target)?;
+        let len = take_text(parts, false, target)?;
+        put_line(parts.head(), len, target)?;
     }
     Err(RunError::Many)
 }
 
-// Writes what a head says, a tab behind each.
-fn put_said<W: TellWrite>(head: &[u8], target: &mut BufWriter<W>) -> io::Result<()>
-    ensures { PutsBytes W.log W.trace target.old (front_of head.now) result target.new }
+// Writes the line of a part: what its head says, a tab behind each, and how long its text is.
+fn put_line<W: TellWrite>(head: &[u8], len: u64, target: &mut BufWriter<W>) -> io::Result<()>
+    ensures { PutsBytes W.log W.trace target.old (list_line head.now len) result target.new }
 {
     put_or(said(head, b"name"), target)?;
     put_or(said(head, b"filename"), target)?;
-    put_or(field(head, b"Content-Type"), target)
+    put_or(field(head, b"Content-Type"), target)?;
+    let mut digits = itoa::Buffer::new();
+    target.write_all(digits.format(len).as_bytes())?;
+    target.write_all(b"\n")
 }
 
 fn put_or<W: TellWrite>(said: Option<&[u8]>, target: &mut BufWriter<W>) -> io::Result<()>
@@ -72,32 +75,4 @@ fn or_hyphen<'a>(said: Option<&'a [u8]>) -> &'a [u8]
         Some(said) => said,
         None => b"-",
     }
-}
-
-// Ends a line by how long the text is.
-fn put_len<W: TellWrite>(len: u64, target: &mut BufWriter<W>) -> io::Result<()>
-    ensures { PutsBytes W.log W.trace target.old (decimal len ++ 10 ∷ []) result target.new }
-{
-    let mut digits = itoa::Buffer::new();
-    target.write_all(digits.format(len).as_bytes())?;
-    target.write_all(b"\n")
-}
-
-// How many bytes the text of the part has.
-fn text_len<R: TellRead>(parts: &mut Multipart<R>) -> Result<u64, RunError>
-    requires { parts.old.stand ≡ Stand.Part }
-    ensures { TakesText R.remaining parts.old result parts.new }
-{
-    // Says that the reader of the text is whole.
-    let _ = parts.get_ref();
-    let mut len = 0u64;
-    for _piece in 0..u64::MAX {
-        let count = parts.fill()?;
-        if count == 0 {
-            return Ok(len);
-        }
-        len = len.saturating_add(count as u64);
-        parts.consume(count);
-    }
-    Err(RunError::Many)
 }

@@ -10,6 +10,7 @@ mod error;
 mod get;
 mod list;
 mod run;
+mod text;
 
 use crate::ending::Ending;
 use buffer_redux::tell::Told;

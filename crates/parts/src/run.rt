@@ -1,6 +1,7 @@
 //! A run as words ask for it, over any two streams that tell.
-ghost use Rattle.std.specs.Prelude.{◌≡◌, ◌↔◌, [], IfSome, IsTrue, MatchOption, None, map, string_bytes};
-ghost use Rattle.parts.specs.Asked.{FlushedUnless, GetDid, IsBoundary, ListDid, WasEnded, NoneAsked, RunDid, get_words, list_words};
+ghost use Rattle.std.specs.Prelude.{◌≡◌, ◌↔◌, [], IfSome, IsTrue, None, map, string_bytes};
+ghost use Rattle.std.specs.Option.{option_copied};
+ghost use Rattle.parts.specs.Asked.{Asks, DidSo, FlushedUnless, IsBoundary, NoneAsked, RunAnswers, RunDid, WasEnded};
 
 use crate::ending::Ending;
 use crate::error::RunError;
@@ -41,10 +42,7 @@ pub fn run_asked<R: TellRead, W: TellWrite>(
         Err((_, reader, writer)) => return (Ending::Usual(Usual::Memory), reader, writer),
     };
     match Multipart::new(alloc, source, boundary, LIMITS) {
-        Ok(parts) => match name {
-            None => run_list(parts, target),
-            Some(name) => run_get(parts, name, target),
-        },
+        Ok(parts) => run(parts, name, target),
         Err((source, _)) => {
             let (writer, _) = target.into_inner_with_buffer();
             (Ending::Usual(Usual::Memory), source.into_inner(), writer)
@@ -55,8 +53,7 @@ pub fn run_asked<R: TellRead, W: TellWrite>(
 // What words ask for: the boundary, and the name of the part that is wanted, or none where parts are to be listed.
 fn asked(words: &[String]) -> Option<(&[u8], Option<&[u8]>)>
     ensures boundary { IfSome result (λ a. IsBoundary a.0.now) }
-    ensures some { IfSome result (λ a. MatchOption a.1 (map string_bytes words.now ≡ list_words a.0.now)
-        (λ name. map string_bytes words.now ≡ get_words a.0.now name.now)) }
+    ensures some { IfSome result (λ a. Asks (map string_bytes words.now) a.0.now (option_copied a.1)) }
     ensures none { result ≡ None → NoneAsked (map string_bytes words.now) }
 {
     match words {
@@ -77,24 +74,10 @@ fn is_boundary(word: &str) -> bool
     !word.is_empty() && word.len() <= 70
 }
 
-// Lists these parts.
-fn run_list<R: TellRead, W: TellWrite>(parts: Multipart<R>, target: BufWriter<W>) -> (Ending, R, W)
-    requires stands { parts.stand ≡ Stand.Preamble }
-    requires none { parts.parts ≡ 0 }
-    requires begins { parts.body.taken ≡ [] }
-    requires unread { parts.body.reader.block.bytes ≡ [] }
-    requires unwritten { target.block.bytes ≡ [] }
-    ensures { ListDid R.remaining W.log W.trace parts target result.0 (R.log result.1) (W.log result.2) }
-{
-    let (mut parts, mut target) = (parts, target);
-    let answer = list(&mut parts, &mut target);
-    ended(answer, parts, target)
-}
-
-// Writes the text of the part of this name.
-fn run_get<R: TellRead, W: TellWrite>(
+// Lists these parts, or writes the text of the first of this name. Both streams come back.
+fn run<R: TellRead, W: TellWrite>(
     parts: Multipart<R>,
-    name: &[u8],
+    name: Option<&[u8]>,
     target: BufWriter<W>,
 ) -> (Ending, R, W)
     requires stands { parts.stand ≡ Stand.Preamble }
@@ -102,14 +85,30 @@ fn run_get<R: TellRead, W: TellWrite>(
     requires begins { parts.body.taken ≡ [] }
     requires unread { parts.body.reader.block.bytes ≡ [] }
     requires unwritten { target.block.bytes ≡ [] }
-    ensures { GetDid R.remaining W.log W.trace name.now parts target result.0 (R.log result.1) (W.log result.2) }
+    ensures { DidSo R.remaining W.log W.trace (option_copied name.entry) parts target result.0 (R.log result.1) (W.log result.2) }
 {
     let (mut parts, mut target) = (parts, target);
-    let answer = get(&mut parts, name, &mut target);
+    let answer = list_or_get(&mut parts, name, &mut target);
     ended(answer, parts, target)
 }
 
-// Flushes what was written, and says how the run ends. Both streams come back.
+fn list_or_get<R: TellRead, W: TellWrite>(
+    parts: &mut Multipart<R>,
+    name: Option<&[u8]>,
+    target: &mut BufWriter<W>,
+) -> Result<(), RunError>
+    requires stands { parts.old.stand ≡ Stand.Preamble }
+    requires none { parts.old.parts ≡ 0 }
+    requires begins { parts.old.body.taken ≡ [] }
+    ensures { RunAnswers R.remaining W.log W.trace (option_copied name.entry) parts.old target.old result parts.new target.new }
+{
+    match name {
+        None => list(parts, target),
+        Some(name) => get(parts, name, target),
+    }
+}
+
+// Flushes what was written, and says how the run ends.
 fn ended<R: TellRead, W: TellWrite>(
     answer: Result<(), RunError>,
     parts: Multipart<R>,
