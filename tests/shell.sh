@@ -82,7 +82,7 @@ refuses() { # its usage, words each
 # What it says of a stream that failed.
 said_of() { # `read` or `write`, the words
     case "$name $2" in
-        frames* | bodies*) echo "$1 failed" ;;
+        frames* | bodies* | parts*) echo "$1 failed" ;;
         *) echo 'read or write failed' ;;
     esac
 }
@@ -503,6 +503,28 @@ END
     refused decode "$scratch/body" "$payload"
 }
 
+# Bodies of others' encoders are those of tests/parts.py.
+run_parts() {
+    part='--b\r\nContent-Disposition: form-data; name="n"\r\n\r\nhello\r\n'
+    line='n\t-\t-\t5\n'
+    answer <<END
+list b|$part--b--|||$line|0|1 1
+list b|$part$part--b--GET|64*||$line$line|0|2 1
+list b|$part--b\r\n\r\nhi|||$line|5|2 1|the input ends within the body
+list b|$part--b\r\n\r\nhi|70 e||$line|1|2 1
+list b|$part--b--||e||1|1 1
+get b n|$part$part--b--|64*||hello|0|1 1
+get b n|--b\r\n\r\n\r\n$part--b--|||hello|0|1 1
+get b n|--b\r\n\r\nhello\r\n--b--||||6|1 0|no part has this name
+get b n|--b\r\nContent-Disposition: form-data; name="n"\r\n\r\nhe|||he|5|2 1|the input ends within the body
+END
+    refuses 'list BOUNDARY|get BOUNDARY NAME' list 'list b n' 'get b' 'get b n n' "list $(printf %071d 0)" "$no_text"
+    { printf -- '--b\r\nContent-Disposition: form-data; name="n"\r\n\r\n'; cat "$lines"; printf '\r\n--b--'; } > "$scratch/body"
+    turns 'get b n' "$scratch/body" "$lines"
+    faults 'get b n' "$scratch/body"
+    refused 'get b n' "$scratch/body" "$lines"
+}
+
 # A request that stands within a bulk string is none, whichever read within that string is interrupted or fails.
 run_resp_server() {
     turns '' crates/resp_server/stdin crates/resp_server/stdout
@@ -526,6 +548,11 @@ run_resp_server() {
     answers '' '*2\r\n$3\r\nGET\r\n' '512*' '' '' 5 '2 0' "$cut"
     answers '' 'PING\r\n*1\r\n$4\r\nPI' '512*' '' '+PONG\r\n' 5 '2 1' "$cut"
     answers '' 'PING\r\nPIN' '512*' '' '+PONG\r\n' 5 '2 1' "$cut"
+    # What a send that failed left isn't offered again at the end.
+    printf '%b' 'PING\r\n' > "$scratch/in"
+    READS='' WRITES=e CALLS=$scratch/calls LD_PRELOAD=$system "$program" < "$scratch/in" > "$scratch/out" 2> "$scratch/err"
+    ended "$name as a write fails" $? 1 'Error: Os { code: 5, kind: Uncategorized, message: "Input/output error" }'
+    holds "$name as a write fails" "$nothing"
 }
 
 # Its errors are told by the system's own words; a stream that doesn't wait is refused by such a line too.
@@ -607,7 +634,7 @@ if ! "${CC:-cc}" -O2 -shared -fPIC -o "$system" tests/system.c -ldl 2> "$scratch
     wrong 'tests/system.c is not compiled' "$scratch/compiled"
     exit 1
 fi
-for it in bufcopy replay frames bodies resp_server requests tests_refused; do
+for it in bufcopy replay frames bodies parts resp_server requests tests_refused; do
     if begins "$it"; then
         "run_$it"
         ends
