@@ -1,20 +1,17 @@
 -- The rest of a body is taken, and its payload dropped.
-use Rattle.std.proofs.Common.{◌≡◌, ℕ, ◌^◌, ◌-◌, ◌+◌, ◌<◌, ◌≤◌, ◌⊎◌, List, ◌++◌, length, take, Option, Result, MatchResult, Ok, Err, arith, inl, inr, refl, length-append}
+use Rattle.std.proofs.Common.{◌≡◌, ℕ, ◌^◌, ◌-◌, ◌+◌, ◌<◌, ◌≤◌, List, ◌++◌, length, take, Option, Ok, Err, arith, inl, inr, refl, length-append}
 use Rattle.std.proofs.lemmas.List.{length-take-le}
 use Rattle.std.specs.IoError.{error_kind}
 use Rattle.std.specs.Prelude.{⊤}
 use Rattle.std.specs.declared.io.Error.{Error}
 use Rattle.std.specs.declared.io.ErrorKind.TheVariants.{Other}
-use Rattle.buffer_redux.specs.AskingLaws.{AskedWhere-of}
 use Rattle.buffer_redux.specs.Policy.{ReadRules}
-use Rattle.buffer_redux.specs.Unbuffer.{unbuffered}
 use Rattle.body_reader.specs.declared.error.BodyError.{BodyError}
 use Rattle.body_reader.specs.declared.error.BodyError.TheVariants.{Io}
-use Rattle.body_reader.specs.Between.{EachGave}
 use Rattle.body_reader.specs.BetweenLaws.{StopsFor-after}
-use Rattle.body_reader.specs.BodyReader.{BodyState, ConsumesPayload, Drains, FillsPayload, NoPayload, TookWholeBody}
-use Rattle.body_reader.specs.Coding.{Grammar, IsLawful, LeadsOpen}
-use Rattle.body_reader.specs.Taking.{TakenInPieces, TakesTo, filled_gave, fills_here, takes_filled, takes_more, takes_to}
+use Rattle.body_reader.specs.BodyReader.{BodyState, ConsumesPayload, Drains, FillsPayload}
+use Rattle.body_reader.specs.Coding.{Grammar, IsLawful}
+use Rattle.body_reader.specs.Taking.{TakenInPieces, filled_gave, fills_here, takes_filled, takes_more, takes_to}
 
 -- this much was dropped so far, in so many pieces
 pub record Dropped {S Q C P W : Type 0} (remaining : S → Option (List ℕ)) (rules : ReadRules Q) (g : Grammar P W)
@@ -28,39 +25,30 @@ module _ {S Q C P W : Type 0} {remaining : S → Option (List ℕ)} {rules : Rea
   abbrev g : Grammar P W
   g = grammar s.coding
 
-  drains : {t : BodyState S Q C P} → TakesTo remaining rules g (λ _. ⊤) s so.payload t
-      → (answer : Result (Unit {0}) (BodyError W)) → MatchResult answer
-      (λ _. EachGave s.reader t.reader × TookWholeBody g t)
-      (λ why. NoPayload g s why t ⊎ ((e : Error) × (why ≡ Io e) × (error_kind e ≡ Other)
-      × (2 ^ 64 - 1 ≤ length so.payload) × EachGave s.reader t.reader))
-      → Drains remaining rules g s answer t
-  drains {t} to answer answers = record {
-    payload = so.payload;
-    went = to.went;
-    answers = answers;
-    pieces = to.pieces;
-    asked = AskedWhere-of (λ bytes. (came : List ℕ) × LeadsOpen g s.place came bytes × ⊤)
-        (λ bytes. (came : List ℕ) × LeadsOpen g s.place came bytes) (unbuffered s.reader) (unbuffered t.reader)
-        (λ more o. (o.0, o.1)) to.asked;
-    ended = to.ended;
-    whole = to.whole;
-  }
-
   -- the body ended
   pub drained : {f : BodyState S Q C P} → FillsPayload remaining rules (grammar m.coding) m (Ok 0) f
       → Drains remaining rules g s (Ok tt) f
-  drained fills = drains (takes_filled grammar so.taken fills tt) (Ok tt)
-      (filled_gave grammar so.taken fills, (fills_here grammar so.taken fills).answers.2 refl)
+  drained fills = record {
+    payload = so.payload;
+    takes = takes_filled grammar so.taken fills tt;
+    answers = (filled_gave grammar so.taken fills, (fills_here grammar so.taken fills).answers.2 refl);
+  }
 
   -- or not
   pub not_drained : {e : BodyError W} {f : BodyState S Q C P} → FillsPayload remaining rules (grammar m.coding) m (Err e) f
       → Drains remaining rules g s (Err e) f
-  not_drained {e} {f} fills = drains (takes_filled grammar so.taken fills tt) (Err e)
-      (inl (StopsFor-after _ _ _ s.reader m.reader f.reader so.taken.gave e (fills_here grammar so.taken fills).answers))
+  not_drained {e} {f} fills = record {
+    payload = so.payload;
+    takes = takes_filled grammar so.taken fills tt;
+    answers = inl (StopsFor-after _ _ _ s.reader m.reader f.reader so.taken.gave e (fills_here grammar so.taken fills).answers);
+  }
 
   pub too_many : {e : Error} → error_kind e ≡ Other → 2 ^ 64 - 1 ≤ count → Drains remaining rules g s (Err (Io e)) m
-  too_many {e} kind many = drains (takes_to remaining rules g (λ _. ⊤) so.taken) (Err (Io e))
-      (inr (e, refl, kind, omega (arith, many, so.many), so.taken.gave))
+  too_many {e} kind many = record {
+    payload = so.payload;
+    takes = takes_to remaining rules g (λ _. ⊤) so.taken;
+    answers = inr (e, refl, kind, omega (arith, many, so.many), so.taken.gave);
+  }
 
   -- one piece more
   pub dropped_more : {n : ℕ} {f : BodyState S Q C P} → FillsPayload remaining rules (grammar m.coding) m (Ok n) f → 0 < n

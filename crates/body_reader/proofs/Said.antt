@@ -35,11 +35,11 @@ module _ {S Q C P W : Type 0} {remaining : S → Option (List ℕ)} {rules : Rea
   }
   drain_says (Ok _) drains = record {
     ended = drains.answers.1;
-    in_order = (drains.went.wire, drains.went.along.in_order, drains.went.taken);
+    in_order = (drains.takes.went.wire, drains.takes.went.along.in_order, drains.takes.went.taken);
     drains = drains;
   }
   drain_says (Err e) drains = record {
     ended = tt;
-    in_order = (drains.went.wire, drains.went.along.in_order, drains.went.taken);
+    in_order = (drains.takes.went.wire, drains.takes.went.along.in_order, drains.takes.went.taken);
     drains = drains;
   }

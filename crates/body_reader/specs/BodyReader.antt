@@ -1,5 +1,5 @@
 -- What contracts see of a reader of a body, and what its calls promise.
-use Rattle.std.specs.Prelude.{◌≡◌, ℕ, zero, suc, ◌+◌, ◌-◌, ◌^◌, ◌<◌, ◌≤◌, ◌⊎◌, List, [], ◌++◌, length, min, take, Bool, true, false, MatchBool, Option, Result, Ok, Err, IfOk, MatchResult}
+use Rattle.std.specs.Prelude.{◌≡◌, ℕ, zero, suc, ◌+◌, ◌-◌, ◌^◌, ◌<◌, ◌≤◌, ◌⊎◌, List, [], ◌++◌, length, min, take, Bool, true, false, MatchBool, Option, Result, Ok, Err, IfOk, MatchResult, ⊤}
 use Rattle.std.specs.Borrow.{Bor}
 use Rattle.std.specs.IoError.{error_kind}
 use Rattle.std.specs.declared.io.Error.{Error}
@@ -162,54 +162,44 @@ module _ {S Q C P W : Type 0} (remaining : S → Option (List ℕ)) (rules : Rea
     pub pieces : TakesManyPieces count s last
     pub end : (last ≡ t) ⊎ ((answer : Result ℕ (BodyError W)) × FillsPayload last answer t)
 
-  -- the rest of the body was taken, and its payload dropped, or why not: as a read of payload answers, or by `Other` where more
-  -- pieces were dropped than are counted. The stream is asked only where nothing was settled, and no piece is cut. Once the body
-  -- ended the buffered reader isn't called
-  pub record Drains (s : BodyState S Q C P) (answer : Result (Unit {0}) (BodyError W)) (t : BodyState S Q C P) : Type 0 where
-    pub payload : List ℕ
+  -- this payload was taken so. The stream is asked only where nothing was settled, and the payload that came lets it, and no
+  -- piece is cut. Once the body ended nothing is done
+  pub record TakesTo (Lets : List ℕ → Type 0) (s : BodyState S Q C P) (payload : List ℕ) (t : BodyState S Q C P) : Type 0 where
     pub went : BodyWent s payload t
-    pub answers : MatchResult answer (λ _. EachGave s.reader t.reader × TookWholeBody g t)
-        (λ why. NoPayload g s why t
-        ⊎ ((e : Error) × (why ≡ Io e) × (error_kind e ≡ Other) × (2 ^ 64 - 1 ≤ length payload)
-        × EachGave s.reader t.reader))
     pub pieces : InPieces s t
-    pub asked : AskedWhere (λ bytes. (dropped : List ℕ) × LeadsOpen g s.place dropped bytes) (unbuffered s.reader)
+    pub asked : AskedWhere (λ bytes. (came : List ℕ) × LeadsOpen g s.place came bytes × Lets came) (unbuffered s.reader)
         (unbuffered t.reader)
     pub ended : TookWholeBody g s → t ≡ s
     pub whole : IsBodyReader g t
 
-  -- the stream is asked only where nothing was settled, and the payload that came lets it
-  abbrev pub AsksWhile : (List ℕ → Type 0) → BodyState S Q C P → BodyState S Q C P → Type 0
-  AsksWhile Lets s t = AskedWhere (λ bytes. (came : List ℕ) × LeadsOpen g s.place came bytes × Lets came)
-      (unbuffered s.reader) (unbuffered t.reader)
+  -- the rest of the body was taken, and its payload dropped, or why not: as a read of payload answers, or by `Other` where more
+  -- pieces were dropped than are counted
+  pub record Drains (s : BodyState S Q C P) (answer : Result (Unit {0}) (BodyError W)) (t : BodyState S Q C P) : Type 0 where
+    pub payload : List ℕ
+    pub takes : TakesTo (λ _. ⊤) s payload t
+    pub answers : MatchResult answer (λ _. EachGave s.reader t.reader × TookWholeBody g t)
+        (λ why. NoPayload g s why t
+        ⊎ ((e : Error) × (why ≡ Io e) × (error_kind e ≡ Other) × (2 ^ 64 - 1 ≤ length payload)
+        × EachGave s.reader t.reader))
 
-  -- how it ends that payload is collected, of which so much is there: the body ended; or none comes; what is there says that no
-  -- more is wanted; or some is buffered, with which it would be more than so many bytes, or it would fit and memory for it was
-  -- refused
-  abbrev pub CollectEnds : ℕ → (List ℕ → Bool → Type 0) → BodyState S Q C P → List ℕ → Result (Unit {0}) (CollectError W)
-      → BodyState S Q C P → Type 0
-  CollectEnds most Says s all (Ok _) t = EachGave s.reader t.reader × TookWholeBody g t × Says all true
-  CollectEnds most Says s all (Err (collect.Body why)) t = NoPayload g s why t
-  CollectEnds most Says s all (Err collect.Unwanted) t = EachGave s.reader t.reader × Says all false
-  CollectEnds most Says s all (Err collect.TooLong) t =
+  -- how it ends that payload is collected, of which so much is there: the body ended; or none comes; or some is buffered, with
+  -- which it would be more than so many bytes, or it would fit and memory for it was refused
+  abbrev pub CollectEnds : ℕ → BodyState S Q C P → List ℕ → Result (Unit {0}) (CollectError W) → BodyState S Q C P → Type 0
+  CollectEnds most s all (Ok _) t = EachGave s.reader t.reader × TookWholeBody g t
+  CollectEnds most s all (Err (collect.Body why)) t = NoPayload g s why t
+  CollectEnds most s all (Err collect.TooLong) t =
       EachGave s.reader t.reader × (0 < t.known) × (most < length all + t.known)
-  CollectEnds most Says s all (Err collect.Memory) t =
+  CollectEnds most s all (Err collect.Memory) t =
       EachGave s.reader t.reader × (0 < t.known) × (length all + t.known ≤ most)
 
-  -- the rest of the body was taken, and its payload appended, or why not: of no more bytes than fit so many, and while what is
-  -- there says that more is wanted. The stream is asked only where nothing was settled, and no piece is cut. Once the body ended
-  -- nothing is done
-  pub record Collects (most : ℕ) (Says : List ℕ → Bool → Type 0) (s : BodyState S Q C P) (before : List ℕ)
-      (answer : Result (Unit {0}) (CollectError W)) (t : BodyState S Q C P) (after : List ℕ) : Type 0 where
+  -- the rest of the body was taken, and its payload appended, or why not: of no more bytes than fit so many
+  pub record Collects (most : ℕ) (s : BodyState S Q C P) (before : List ℕ) (answer : Result (Unit {0}) (CollectError W))
+      (t : BodyState S Q C P) (after : List ℕ) : Type 0 where
     pub payload : List ℕ
-    pub went : BodyWent s payload t
+    pub takes : TakesTo (λ _. ⊤) s payload t
     pub collected : after ≡ before ++ payload
     pub few : 0 < length payload → length after ≤ most
-    pub pieces : InPieces s t
-    pub asked : AsksWhile (λ came. Says (before ++ came) true) s t
-    pub ends : CollectEnds most Says s after answer t
-    pub ended : TookWholeBody g s → t ≡ s
-    pub whole : IsBodyReader g t
+    pub ends : CollectEnds most s after answer t
 
   -- what `read_buffered` does, which left the slice as out: payload that is buffered is handed out, as much as the slice takes.
   -- Less comes only where the body ended, or what is buffered settles nothing, or is wrong. The stream isn't asked. Where so much

@@ -1,19 +1,15 @@
 -- Laws of a reader of a body.
-use Rattle.std.proofs.Common.{◌≡◌, ◌≤◌, arith, ℕ, zero, suc, List, [], ◌++◌, length, take, drop, Bool, true, false, Option, None, Some, Result, Ok, Err, sym, ap, subst, ◌∙◌, refl, append_assoc, append-nil}
+use Rattle.std.proofs.Common.{◌≡◌, ◌≤◌, arith, ℕ, zero, suc, List, [], ◌++◌, length, take, drop, Option, None, Some, sym, ap, subst, ◌∙◌, refl, append_assoc, append-nil}
 use Rattle.std.proofs.lemmas.List.{append_cancel_left, drop_at}
 use Rattle.std.specs.Io.KnownBytes.{Consumes}
-use Rattle.buffer_redux.specs.AskingLaws.{AskedWhere-of}
 use Rattle.buffer_redux.specs.Buffered.{Buffered}
 use Rattle.buffer_redux.specs.Policy.{ReadRules}
 use Rattle.buffer_redux.specs.ReaderLaws.{ReadsAlong-none, ReadsAlong-joins, ReadsInOrder-ahead}
 use Rattle.buffer_redux.specs.Remaining.{ahead}
 use Rattle.buffer_redux.specs.StreamLog.{StreamLog}
-use Rattle.buffer_redux.specs.Unbuffer.{unbuffered}
-use Rattle.body_reader.specs.declared.error.CollectError.{CollectError}
-use Rattle.body_reader.specs.declared.error.CollectError.TheVariants as collect
 use Rattle.body_reader.specs.BetweenLaws.{KeepsBuffer-joins, KeepsBuffer-none}
-use Rattle.body_reader.specs.BodyReader.{BodyState, BodyWent, Breaks, CollectEnds, Collects, EndsEarly, IsBodyReader, NotedIfSome, TookWholeBody, begun, handed_of}
-use Rattle.body_reader.specs.Coding.{Agree, Grammar, IsBody, IsLawful, Leads, LeadsOpen, heeded}
+use Rattle.body_reader.specs.BodyReader.{BodyState, BodyWent, Breaks, EndsEarly, IsBodyReader, NotedIfSome, TookWholeBody, begun, handed_of}
+use Rattle.body_reader.specs.Coding.{Agree, Grammar, IsBody, IsLawful, Leads, heeded}
 use Rattle.body_reader.specs.CodingLaws.{Agree-front, Agree-less, Leads-left, Leads-none, heeded_on}
 
 -- just what was handed out is noted
@@ -75,33 +71,6 @@ module _ {S Q C P W : Type 0} (remaining : S → Option (List ℕ)) (rules : Rea
       left_then None b bytes lost is gone = cc
       left_then (Some x) None bytes lost is gone = absurd gone
       left_then (Some x) (Some y) bytes lost is gone = (y, refl, (let same : x ≡ bytes = cc in sym same ∙ gone))
-
-  -- what a collection says of what is there may be told by what follows of it
-  pub Collects-of : {Says Tells : List ℕ → Bool → Type 0} → ((all : List ℕ) (more : Bool) → Says all more → Tells all more)
-      → (most : ℕ) (s : BodyState S Q C P) (before : List ℕ) (answer : Result (Unit {0}) (CollectError W)) (t : BodyState S Q C P)
-      (after : List ℕ) → Collects remaining rules g most Says s before answer t after
-      → Collects remaining rules g most Tells s before answer t after
-  Collects-of {Says} {Tells} so most s before answer t after c = record {
-    payload = c.payload;
-    went = c.went;
-    collected = c.collected;
-    few = c.few;
-    pieces = c.pieces;
-    asked = AskedWhere-of (λ bytes. (came : List ℕ) × LeadsOpen g s.place came bytes × Says (before ++ came) true)
-        (λ bytes. (came : List ℕ) × LeadsOpen g s.place came bytes × Tells (before ++ came) true) (unbuffered s.reader)
-        (unbuffered t.reader) (λ more o. (o.0, o.1, so (before ++ o.0) true o.2)) c.asked;
-    ends = told answer c.ends;
-    ended = c.ended;
-    whole = c.whole;
-  }
-    where
-      told : (answer : Result (Unit {0}) (CollectError W)) → CollectEnds remaining rules g most Says s after answer t
-          → CollectEnds remaining rules g most Tells s after answer t
-      told (Ok x) a = (a.0, a.1, so after true a.2)
-      told (Err (collect.Body why)) a = a
-      told (Err collect.Unwanted) a = (a.0, so after false a.1)
-      told (Err collect.TooLong) a = a
-      told (Err collect.Memory) a = a
 
 -- of bytes that begin with a body, a reader that took and shows the front of them has handed out the front of its payload;
 -- nothing is wrong, nor missing; and once the body ended, just what follows it is buffered

@@ -1,5 +1,6 @@
 -- Pieces of payload are taken, one after another, as a loop over `fill_payload` and `consume_payload` does.
 use Rattle.std.proofs.Common.{◌≡◌, ℕ, zero, suc, ◌<◌, List, [], ◌++◌, min, take, Option, Result, Ok, subst, sym, ◌∙◌, arith, inl, inr, refl, append-nil}
+use Rattle.buffer_redux.specs.Asking.{AskedWhere}
 use Rattle.buffer_redux.specs.Policy.{ReadRules}
 use Rattle.buffer_redux.specs.Unbuffer.{unbuffered}
 use Rattle.body_reader.specs.declared.error.BodyError.{BodyError}
@@ -7,7 +8,7 @@ use Rattle.buffer_redux.specs.AskingLaws.{AskedWhere-same}
 use Rattle.body_reader.specs.AskingLaws.{AskedWhere-behind}
 use Rattle.body_reader.specs.Between.{EachGave}
 use Rattle.body_reader.specs.BetweenLaws.{EachGave-joins, EachGave-none, EachGave-same}
-use Rattle.body_reader.specs.BodyReader.{AsksWhile, BodyState, BodyWent, ConsumesPayload, FillsPayload, InPieces, IsBodyReader, TakesManyPieces, TookWholeBody, handed_of}
+use Rattle.body_reader.specs.BodyReader.{BodyState, BodyWent, ConsumesPayload, FillsPayload, IsBodyReader, TakesManyPieces, TakesTo, TookWholeBody, handed_of}
 use Rattle.body_reader.specs.BodyReaderLaws.{BodyWent-joins, BodyWent-leads, BodyWent-none}
 use Rattle.body_reader.specs.Coding.{Grammar, IsLawful, LeadsOpen, heeded}
 use Rattle.body_reader.specs.CodingLaws.{Leads-done, LeadsOpen-behind}
@@ -20,18 +21,11 @@ module _ {S Q C P W : Type 0} (remaining : S → Option (List ℕ)) (rules : Rea
     pub gave : EachGave s.reader m.reader
     pub count : ℕ
     pub pieces : TakesManyPieces remaining rules g count s m
-    pub asked : AsksWhile remaining rules g Lets s m
+    pub asked : AskedWhere (λ bytes. (came : List ℕ) × LeadsOpen g s.place came bytes × Lets came) (unbuffered s.reader)
+        (unbuffered m.reader)
     pub ended : TookWholeBody g s → m ≡ s
     pub first : IsBodyReader g s
     pub whole : IsBodyReader g m
-
-  -- and then at most a fill
-  pub record TakesTo (s : BodyState S Q C P) (payload : List ℕ) (t : BodyState S Q C P) : Type 0 where
-    pub went : BodyWent remaining rules g s payload t
-    pub pieces : InPieces remaining rules g s t
-    pub asked : AsksWhile remaining rules g Lets s t
-    pub ended : TookWholeBody g s → t ≡ s
-    pub whole : IsBodyReader g t
 
   pub takes_none : (s : BodyState S Q C P) → IsBodyReader g s → TakenInPieces s [] s
   takes_none s is = record {
@@ -46,7 +40,7 @@ module _ {S Q C P W : Type 0} (remaining : S → Option (List ℕ)) (rules : Rea
   }
 
   pub takes_to : {s : BodyState S Q C P} {payload : List ℕ} {m : BodyState S Q C P} → TakenInPieces s payload m
-      → TakesTo s payload m
+      → TakesTo remaining rules g Lets s payload m
   takes_to {m = m} so = record {
     went = so.went;
     pieces = record { count = so.count; last = m; pieces = so.pieces; end = inl refl };

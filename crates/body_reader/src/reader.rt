@@ -1,7 +1,6 @@
 //! The reader of a body.
 ghost use Rattle.std.specs.Prelude.{◌≡◌, ℕ, List, [], ◌+◌, ◌-◌, ◌<◌, ◌≤◌, ◌↔◌, ◌++◌, length, min, take, vec_capacity, vec_items, Err, IfErr, IfOk, IsOkAnd, IsTrue, MatchResult, Ok, OnOk};
 ghost use Rattle.std.specs.Borrow.{Lends, sem};
-ghost use Rattle.std.specs.Fn.{FnReturnsAt};
 ghost use Rattle.body_reader.specs.contracts.reader.BodyReader.{the_row};
 ghost use Rattle.buffer_redux.specs.Block.{Reserves, capacity_for};
 ghost use Rattle.buffer_redux.specs.Buffered.{over_buffer, with_inner};
@@ -293,27 +292,21 @@ impl<R: TellRead, C: Coding, P: ReaderPolicy> BodyReader<R, C, P> {
         Err(BodyError::Io(io::Error::from(ErrorKind::Other)))
     }
 
-    /// Takes the rest of the body, and appends its payload to `out`, but no byte with which that would have more than `most`.
-    /// Before each piece, and at the end, `goes_on` says of what `out` has whether more is wanted.
-    pub fn collect<F: Fn(&[u8]) -> bool>(
-        &mut self,
-        most: usize,
-        out: &mut Vec<u8>,
-        goes_on: F,
-    ) -> Result<(), CollectError<C::Wrong>>
-        requires { F.IsAlwaysCallable goes_on }
+    /// Takes the rest of the body, and appends its payload to `out`, but no piece with which that would have more than `most`
+    /// bytes.
+    pub fn collect(&mut self, most: usize, out: &mut Vec<u8>) -> Result<(), CollectError<C::Wrong>>
         ensures appended { (payload : List ℕ) × (vec_items out.new ≡ vec_items out.old ++ payload)
             × (0 < length payload → length (vec_items out.new) ≤ most)
             × (self.new.calls.reads.given ≡ self.old.calls.reads.given ++ payload) }
         ensures ended { OnOk result (IsBody (C.grammar self.old.coding) self.new.taken self.new.calls.reads.given) }
         ensures full { IfErr result (λ e. e ≡ CollectError.Memory
             → vec_capacity out.old < length (vec_items out.new) + self.new.known) }
-        ensures collects { Collects R.remaining P.rules (C.grammar self.old.coding) most (FnReturnsAt F.Fn goes_on) self.old
-            (vec_items out.old) result self.new (vec_items out.new) }
+        ensures collects { Collects R.remaining P.rules (C.grammar self.old.coding) most self.old (vec_items out.old) result
+            self.new (vec_items out.new) }
     {
         // Says that the reader is whole, also where nothing comes.
         let _ = self.get_ref();
-        while goes_on(out.as_slice()) {
+        loop {
             let came = self.fill_payload()?;
             if came == 0 {
                 return Ok(());
@@ -326,7 +319,6 @@ impl<R: TellRead, C: Coding, P: ReaderPolicy> BodyReader<R, C, P> {
                 Err(_) => return Err(CollectError::Memory),
             }
         }
-        Err(CollectError::Unwanted)
     }
 
     /// Whether nothing follows what was taken: reads a byte ahead, unless one is buffered, and leaves what comes. Behind the end

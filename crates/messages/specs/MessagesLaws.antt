@@ -169,7 +169,7 @@ module _ {S : Type 0} (remaining : S → Option (List ℕ)) where
       let all = BodyWent-joins remaining std_read_rules (body_rules b.body.coding) b.body m.body ends.end handed
       ends.drains.payload went
       (subst (λ c. BodyWent remaining std_read_rules (body_rules c) m.body ends.drains.payload ends.end) went.coding
-      ends.drains.went) in
+      ends.drains.takes.went) in
       let whole = subst (λ c. TookWholeBody (body_rules c) ends.end) went.coding ends.drains.answers.1 in
       record {
         bytes = b.head ++ all.wire;

@@ -10,10 +10,9 @@ use Rattle.body_reader.specs.declared.error.BodyError.TheVariants as why
 use Rattle.body_reader.specs.declared.just_or_until.JustOr.{JustOr}
 use Rattle.body_reader.specs.declared.just_or_until.JustOrUntil.{JustOrUntil}
 use Rattle.body_reader.specs.Between.{EachGave}
-use Rattle.body_reader.specs.BodyReader.{BodyState, Drains, NoPayload, TookWholeBody, begun, handed_of}
+use Rattle.body_reader.specs.BodyReader.{BodyState, Drains, NoPayload, TakesTo, TookWholeBody, begun, handed_of}
 use Rattle.body_reader.specs.Coding.{Grammar, IsBody}
 use Rattle.body_reader.specs.JustOrUntil.{just_or_until}
-use Rattle.body_reader.specs.Taking.{TakesTo}
 use Rattle.multipart.specs.declared.error.NewError.{NewError}
 use Rattle.multipart.specs.declared.error.NewError.TheVariants as new
 use Rattle.multipart.specs.declared.error.PartError.{PartError}

@@ -88,10 +88,10 @@ module _ {S : Type 0} (remaining : S → Option (List ℕ)) (texts heads : JustO
     text_fails e t (w, drains, same, within) =
         let text = handed_of t.body in
         let inside : InSection texts heads first turns text t =
-        inl (before, inside_on before s t drains.payload is within drains.went, refl) in
+        inl (before, inside_on before s t drains.payload is within drains.takes.went, refl) in
         subst (λ x. NextFails texts heads first turns text s.limits x t) (sym same) (elim drains.answers [
           | inl none ↦ no_payload text s.body t w s.limits inside gave
-              (subst (λ c. NoPayload (codes c) s.body w t.body) (sym drains.went.coding) none)
+              (subst (λ c. NoPayload (codes c) s.body w t.body) (sym drains.takes.went.coding) none)
           | inr many ↦
               subst (λ x. NextFails texts heads first turns text s.limits (part_error x) t) (sym many.1) (
                 inside,
@@ -100,7 +100,7 @@ module _ {S : Type 0} (remaining : S → Option (List ℕ)) (texts heads : JustO
                   omega (
                     arith,
                     many.3,
-                    ap length drains.went.handed,
+                    ap length drains.takes.went.handed,
                     length-append (handed_of s.body) drains.payload,
                   ),
                   EachGave-joins first s.body.reader t.body.reader gave many.4,
@@ -120,7 +120,7 @@ module _ {S : Type 0} (remaining : S → Option (List ℕ)) (texts heads : JustO
       text_gave = EachGave-joins first s.body.reader b.reader gave drains.answers.0
 
       boundary : b.coding.until.delimiter ≡ texts.until.delimiter
-      boundary = ap (λ c. c.until.delimiter) (drains.went.coding ∙ is.coding)
+      boundary = ap (λ c. c.until.delimiter) (drains.takes.went.coding ∙ is.coding)
 
       -- what comes of going on behind the text
       abbrev Comes : Result Bool PartError → FormState S StdPolicy → Type 0
@@ -139,7 +139,7 @@ module _ {S : Type 0} (remaining : S → Option (List ℕ)) (texts heads : JustO
         head_order : ReadsInOrder first ((before ++ b.taken) ++ t.body.taken) t.body.reader
         head_order = order_on remaining first (before ++ b.taken) h behind.body t.body head.1.payload head.1.takes.went
             (subst (λ l. ReadsInOrder first l b.reader) (sym (append-nil (before ++ b.taken)))
-            (order_on remaining first before s.body.coding s.body b drains.payload drains.went is.order))
+            (order_on remaining first before s.body.coding s.body b drains.payload drains.takes.went is.order))
 
         abbrev behind_text : BehindText texts heads first turns (handed_of b) t.body.taken t.body.reader
         behind_text = record {
@@ -188,7 +188,7 @@ module _ {S : Type 0} (remaining : S → Option (List ℕ)) (texts heads : JustO
               (before ++ b.taken) ++ m.body.taken,
               record {
                 stands = inr refl;
-                coding = ap (λ x. x.other) head.0 ∙ drains.went.coding ∙ is.coding;
+                coding = ap (λ x. x.other) head.0 ∙ drains.takes.went.coding ∙ is.coding;
                 other = head.1.takes.went.coding ∙ same;
                 counted = omega (arith, is.counted, ap (λ x. x.parts) head.0);
                 parts = (
@@ -231,12 +231,12 @@ module _ {S : Type 0} (remaining : S → Option (List ℕ)) (texts heads : JustO
         → PassesText remaining std_read_rules s answer t → NextComes answer t
     passes answer t (inl (m, (b, h, drains, last, same), goes)) = (
       handed_of b,
-      (λ whole. ap handed_of (drains.ended whole)),
+      (λ whole. ap handed_of (drains.takes.ended whole)),
       goes_on b h drains last answer t (subst (λ x. GoesOnFromHead remaining std_read_rules x answer t) same goes),
     )
     passes answer t (inr (e, same, leaves)) = (
       handed_of t.body,
-      (λ whole. ap handed_of (leaves.1.ended whole)),
+      (λ whole. ap handed_of (leaves.1.takes.ended whole)),
       subst (λ x. ComesBehind texts heads first turns (handed_of t.body) s.limits x t) (sym same) (text_fails e t leaves),
     )
 

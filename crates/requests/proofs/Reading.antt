@@ -348,12 +348,12 @@ never_fails c s t all (unread.Io e) none = none.1.none t.taken (handed_of t) t.r
 module _ {S : Type 0} {remaining : S → Option (List ℕ)} {m : InBody S} (whole : TookWholeBody (body_rules m.body.coding) m.body)
   where
     pub left_there : {next : ReaderState S Heads} → FinishesBody remaining m next → left_of next ≡ stream_in m
-    left_there ends = ends.left ∙ ap (λ d. unbuffered d.reader) (ends.drains.ended whole)
+    left_there ends = ends.left ∙ ap (λ d. unbuffered d.reader) (ends.drains.takes.ended whole)
 
     pub finishes : {e : BodyError} {t : InBody S} → FailsToFinish remaining m e t → ⊥
     finishes {t = t} fails =
         let drains = fails.drains in
-        let same = drains.ended whole in
+        let same = drains.takes.ended whole in
         elim drains.answers [
           | inl none ↦
               never_fails m.body.coding m.body t.body (subst (TookWholeBody (body_rules m.body.coding)) (sym same) whole)
@@ -361,7 +361,7 @@ module _ {S : Type 0} {remaining : S → Option (List ℕ)} {m : InBody S} (whol
           | inr many ↦ omega (
             arith,
             many.3,
-            ap length drains.went.handed,
+            ap length drains.takes.went.handed,
             ap (λ d. length (handed_of d)) same,
             length-append (handed_of m.body) drains.payload,
           )

@@ -6,14 +6,12 @@ use std::io;
 use std::test::Fail;
 use tests_common::{Source, holding_in, source};
 
-/// The most bytes that the vector may have, up to how many more are wanted, what it has then, and whether the body ended.
-static ROWS: [(usize, usize, &[u8], bool); 6] = [
-    (0, 9, b">", false),
-    (3, 9, b">", false),
-    (5, 9, b">hel", false),
-    (6, 1, b">", false),
-    (6, 4, b">hel", false),
-    (6, 9, b">hello", true),
+/// The most bytes that the vector may have, what it has then, and whether the body ended.
+static ROWS: [(usize, &[u8], bool); 4] = [
+    (0, b">", false),
+    (3, b">", false),
+    (5, b">hel", false),
+    (6, b">hello", true),
 ];
 
 fn of_five(
@@ -31,22 +29,22 @@ fn of_five(
 #[test]
 fn collects(rt: HostRuntime) -> Result<(), Fail> {
     let alloc = rt.alloc();
-    for &(most, wanted, collected, ended) in ROWS.iter() {
+    for &(most, collected, ended) in ROWS.iter() {
         let script = [Answer::Serve(3), Answer::Serve(8)];
         let mut body = of_five(alloc, b"hello, world", &script)?;
         let mut out = Vec::new(alloc);
         out.extend_from_slice(b">")?;
-        let answer = body.collect(most, &mut out, |came| came.len() < wanted);
+        let answer = body.collect(most, &mut out);
         assert!(rt; answer.is_ok() == ended);
         assert!(rt; out.as_slice() == collected);
         if let Err(e) = answer {
-            assert!(rt; matches!(e, CollectError::TooLong) == (wanted == 9));
+            assert!(rt; matches!(e, CollectError::TooLong));
         }
         // A further call goes on.
-        assert!(rt; body.collect(6, &mut out, |_| true).is_ok());
+        assert!(rt; body.collect(6, &mut out).is_ok());
         assert!(rt; out.as_slice() == b">hello".as_slice());
         // Behind the end nothing is too long.
-        assert!(rt; body.collect(0, &mut out, |_| true).is_ok());
+        assert!(rt; body.collect(0, &mut out).is_ok());
         assert!(rt; out.as_slice() == b">hello".as_slice());
         assert!(rt; body.get_ref().buffer() == b", worl".as_slice());
     }
@@ -58,7 +56,7 @@ fn collects_what_came(rt: HostRuntime) -> Result<(), Fail> {
     let alloc = rt.alloc();
     let mut body = of_five(alloc, b"hel", &[])?;
     let mut out = Vec::new(alloc);
-    let refused = body.collect(6, &mut out, |_| true);
+    let refused = body.collect(6, &mut out);
     assert!(rt; matches!(refused, Err(CollectError::Body(_))));
     assert!(rt; out.as_slice() == b"hel".as_slice());
     Ok(())

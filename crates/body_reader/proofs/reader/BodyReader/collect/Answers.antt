@@ -1,48 +1,38 @@
--- Each piece that comes is appended while more is wanted, until the body ends, or why it doesn't.
+-- Each piece that comes is appended, until the body ends, or why it doesn't.
 use Rattle.std.proofs.Common.{arith}
-use Rattle.std.proofs.iter.Next.{says_at}
 use Rattle.std.proofs.lemmas.Result.{err_from_is_err_and}
-use Rattle.body_reader.proofs.Collecting.{collected_more, collected_none, collects_all, collects_enough, collects_long, collects_no_room, collects_none}
+use Rattle.body_reader.proofs.Collecting.{collected_more, collected_none, collects_all, collects_long, collects_no_room, collects_none}
 use Rattle.body_reader.proofs.reader.BodyReader.collect.Goals as goal
 
-pub loop-self-init : goal.loop-self-init
-loop-self-init g c = (collected_none _ _ _ _ _ _ _ c.get_ref.ensures.whole, omega arith)
+pub loop-came-init : goal.loop-came-init
+loop-came-init g c = (collected_none _ _ _ _ _ _ c.get_ref.ensures.whole, omega arith)
 
 pub returns-in_err-came-clause-collects : goal.returns-in_err-came-clause-collects
 returns-in_err-came-clause-collects g c =
     let p = err_from_is_err_and c.from_residual.result c.from_residual.ensures.1 in
-    let more = rw c.as_slice.ensures.value at (says_at g.F.Fn c.goes_on.ensures c.loop-self-test.true) in
-    rw (p.1, p.2) (collects_none g.C.Coding.grammar c.loop-self.invariant.0 more c.in_err-came.ensures.fills)
+    rw (p.1, p.2) (collects_none g.C.Coding.grammar c.loop-came.invariant.0 c.in_err-came.ensures.fills)
 
 pub returns-then-came-eq0-clause-collects : goal.returns-then-came-eq0-clause-collects
 returns-then-came-eq0-clause-collects g c =
-    let more = rw c.as_slice.ensures.value at (says_at g.F.Fn c.goes_on.ensures c.loop-self-test.true) in
-    collects_all g.C.Coding.grammar c.loop-self.invariant.0 more c.in_ok-came.ensures.fills c.if-came-eq0.true
+    collects_all g.C.Coding.grammar c.loop-came.invariant.0 c.in_ok-came.ensures.fills c.if-came-eq0.true
 
 pub returns-then-came-saturating_sub-clause-collects : goal.returns-then-came-saturating_sub-clause-collects
 returns-then-came-saturating_sub-clause-collects g c =
-    let more = rw c.as_slice.ensures.value at (says_at g.F.Fn c.goes_on.ensures c.loop-self-test.true) in
-    collects_long g.C.Coding.grammar c.loop-self.invariant.0 more c.in_ok-came.ensures.fills (omega (arith, c.if-came-eq0.false))
+    collects_long g.C.Coding.grammar c.loop-came.invariant.0 c.in_ok-came.ensures.fills (omega (arith, c.if-came-eq0.false))
     (omega (arith, c.if-came-saturating_sub.true, c.saturating_sub.ensures, c.len.ensures))
 
 pub returns-in-Err-clause-collects : goal.returns-in-Err-clause-collects
 returns-in-Err-clause-collects g c =
-    let more = rw c.as_slice.ensures.value at (says_at g.F.Fn c.goes_on.ensures c.loop-self-test.true) in
-    rw c.in-Err.ensures.items (collects_no_room g.C.Coding.grammar c.loop-self.invariant.0 more c.in_ok-came.ensures.fills
+    rw c.in-Err.ensures.items (collects_no_room g.C.Coding.grammar c.loop-came.invariant.0 c.in_ok-came.ensures.fills
     (omega (arith, c.if-came-eq0.false))
     (omega (arith, c.if-came-eq0.false, c.if-came-saturating_sub.false, c.saturating_sub.ensures, c.len.ensures)))
 
-pub loop-self-preserved : goal.loop-self-preserved
-loop-self-preserved g c =
-    let more = rw c.as_slice.ensures.value at (says_at g.F.Fn c.goes_on.ensures c.loop-self-test.true) in
+pub loop-came-preserved : goal.loop-came-preserved
+loop-came-preserved g c =
     rw (c.in-Ok.ensures.items, c.piece.ensures) (
-      collected_more g.C.Coding.grammar c.loop-self.invariant.0 more
+      collected_more g.C.Coding.grammar c.loop-came.invariant.0
           c.in_ok-came.ensures.fills (omega (arith, c.if-came-eq0.false)) (g.met.C.Coding.lawful _) _
           c.consume_payload.ensures.consumes
           (omega (arith, c.if-came-eq0.false, c.if-came-saturating_sub.false, c.saturating_sub.ensures, c.len.ensures)),
-      omega (arith, c.loop-self.invariant.1, c.in-Ok.ensures.capacity),
+      omega (arith, c.loop-came.invariant.1, c.in-Ok.ensures.capacity),
     )
-
-pub returns-clause-collects : goal.returns-clause-collects
-returns-clause-collects g c = collects_enough g.C.Coding.grammar c.loop-self.invariant.0
-    (rw c.as_slice.ensures.value at (says_at g.F.Fn c.goes_on.ensures c.loop-self-test.false))

@@ -6,7 +6,8 @@ use Rattle.messages.proofs.Inside.{body_goes, body_kept, body_room, body_still}
 use Rattle.messages.proofs.body.Body.finish.Goals as goal
 
 pub invariant_of-result : goal.invariant_of-result
-invariant_of-result g c = (c.self.invariant.0, c.self.invariant.1, body_room c.in-Err.ensures.drains.went c.self.invariant.2)
+invariant_of-result g c =
+    (c.self.invariant.0, c.self.invariant.1, body_room c.in-Err.ensures.drains.takes.went c.self.invariant.2)
 
 -- the reader of pieces has just the stream and the buffer of the reader that drained
 over : (g : _) (c : goal.After-before-in-Ok-with_buffer g)
@@ -17,7 +18,7 @@ over g c =
     let i = c.into_inner_with_buffer-inner.ensures in
     let made = c.in-Ok-with_buffer.ensures.made in
     let same = i.block ∙ ap (λ r. r.block) left.2 in
-    let roomy = body_room left.1.went c.self.invariant.2 in
+    let roomy = body_room left.1.takes.went c.self.invariant.2 in
     let buffer = c.into_inner_with_buffer-inner.result.1 in
     let capacity = ap (λ b. b.capacity) same in
     let fits : 3 * 16384 ≤ buffer.capacity = omega (arith, roomy.capacity, capacity) in (
@@ -29,12 +30,12 @@ over g c =
 pub returns-in-Ok-with_buffer-clause-in_order : goal.returns-in-Ok-with_buffer-clause-in_order
 returns-in-Ok-with_buffer-clause-in_order g c =
     let end = c.in-Ok.ensures.drains in
-    let order = end.1.went.along.in_order in
+    let order = end.1.takes.went.along.in_order in
     rw (c.before-in-Ok-with_buffer.ensures, ← c.self.view_is) (
-      end.1.went.wire,
+      end.1.takes.went.wire,
       order.got,
       ap (λ u. u.log.reads.given) (over g c).0 ∙ order.given,
-      ap (λ u. end.1.went.wire ++ u.left) (over g c).0 ∙ order.equal,
+      ap (λ u. end.1.takes.went.wire ++ u.left) (over g c).0 ∙ order.equal,
     )
 
 pub returns-in-Ok-with_buffer-clause-ends : goal.returns-in-Ok-with_buffer-clause-ends
@@ -46,12 +47,12 @@ returns-in-Ok-with_buffer-clause-ends g c =
 pub returns-in-Ok-with_buffer-clause-room : goal.returns-in-Ok-with_buffer-clause-room
 returns-in-Ok-with_buffer-clause-room g c =
     rw (c.before-in-Ok-with_buffer.ensures, ← c.self.view_is)
-    (ap room_of (over g c).1 ∙ body_kept c.in-Ok.ensures.drains.1.went c.self.invariant.2)
+    (ap room_of (over g c).1 ∙ body_kept c.in-Ok.ensures.drains.1.takes.went c.self.invariant.2)
 
 pub returns-in-Ok-with_buffer-clause-moved : goal.returns-in-Ok-with_buffer-clause-moved
 returns-in-Ok-with_buffer-clause-moved g c =
     rw (c.before-in-Ok-with_buffer.ensures, ← c.self.view_is)
-    (ap (λ b. b.moved) (over g c).1 ∙ body_still c.in-Ok.ensures.drains.1.went c.self.invariant.2)
+    (ap (λ b. b.moved) (over g c).1 ∙ body_still c.in-Ok.ensures.drains.1.takes.went c.self.invariant.2)
 
 pub returns-in-Err-clause-ends : goal.returns-in-Err-clause-ends
 returns-in-Err-clause-ends g c =
@@ -61,5 +62,5 @@ returns-in-Err-clause-ends g c =
       why = c.in-Err.e;
       told = refl;
       drains = drains;
-      goes = body_goes drains.went c.self.invariant.2 drains.whole i.limits i.head.bytes i.said;
+      goes = body_goes drains.takes.went c.self.invariant.2 drains.takes.whole i.limits i.head.bytes i.said;
     })

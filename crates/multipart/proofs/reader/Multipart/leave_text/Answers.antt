@@ -21,7 +21,7 @@ returns g c = rw (← c.self.view_is) (
 pub invariant_of-self : goal.invariant_of-self
 invariant_of-self g c =
     let stand = ap (λ x. x.stand) c.self.view_is in
-    let still = c.in_err-drain.ensures.drains.went.coding in
+    let still = c.in_err-drain.ensures.drains.takes.went.coding in
     elim c.requires.text [
       | inl first ↦ rw (stand ∙ first, still) (rw (stand ∙ first) at c.self.invariant)
       | inr later ↦ rw (stand ∙ later, still) (rw (stand ∙ later) at c.self.invariant)
