@@ -3,7 +3,7 @@ use Rattle.std.proofs.Common.{◌≡◌, ℕ, ◌<◌, ◌≤◌, List, [], ◌+
 use Rattle.buffer_redux.specs.Policy.{ReadRules}
 use Rattle.body_reader.specs.declared.error.BodyError.{BodyError}
 use Rattle.body_reader.specs.BetweenLaws.{StopsFor-after}
-use Rattle.body_reader.specs.BodyReader.{ConsumesPayload, FillsPayload, IsBodyReader}
+use Rattle.body_reader.specs.BodyReader.{ConsumesPayload, FillsPayload, IsBodyReader, TookWholeBody}
 use Rattle.body_reader.specs.JustOrUntilLaws.{just_or_until_lawful}
 use Rattle.body_reader.specs.Taking.{TakenInPieces, filled_gave, fills_here, takes_filled, takes_more, takes_none}
 use Rattle.multipart.specs.declared.error.PartError.{PartError}
@@ -62,8 +62,11 @@ module _ {S Q : Type 0} {remaining : S → Option (List ℕ)} {rules : ReadRules
   module _ {n : ℕ} {f : Section S Q} (fills : FillsPayload remaining rules (codes m.coding) m (Ok n) f) where
     -- or all did
     pub head_whole : n ≡ 0 → CollectsHead remaining rules boundary most s before (Ok tt) f head
-    head_whole none =
-        ends fills (Ok tt) (filled_gave codes so.taken fills, (fills_here codes so.taken fills).answers.2 none)
+    head_whole none = ends fills (Ok tt) (
+      filled_gave codes so.taken fills,
+      subst (λ c. TookWholeBody (codes c) f) (sym (takes_filled codes so.taken fills lets).went.coding)
+          ((fills_here codes so.taken fills).answers.2 none),
+    )
 
     -- or what came is refused
     pub head_refused : 0 < n → (e : PartError) → RefusesPiece boundary most head (take f.known f.reader.block.bytes) e

@@ -1,10 +1,8 @@
 -- A text in parts, byte by byte.
-use Rattle.std.proofs.Common.{◌≡◌, ℕ, suc, ◌+◌, ◌<◌, ◌≤◌, List, [], ◌∷◌, ◌++◌, length, take, drop, get_or, true, false, ap, refl, sym, ◌∙◌, add-one, arith}
+use Rattle.std.proofs.Common.{◌≡◌, ℕ, suc, ◌+◌, ◌<◌, ◌≤◌, List, [], ◌∷◌, ◌++◌, length, take, drop, get_or, ap, refl, sym, ◌∙◌, add-one, arith}
 use Rattle.std.proofs.Math.Seq.{drop-cons, take-suc}
 use Rattle.std.proofs.lemmas.List.{drop_all, take_all}
-use Rattle.std.proofs.lemmas.Bool.Decides.{nat_tests}
 use Rattle.std.specs.List.{onto_first}
-use Rattle.multipart.specs.Head.{ends_line, head_lines}
 
 -- bytes in front of the first part
 abbrev pub onto_front : List ℕ → List (List ℕ) → List (List ℕ)
@@ -41,14 +39,3 @@ module _ (all : List (List ℕ)) (text : List ℕ) (i : ℕ) (split : List ℕ �
   pub part_last : length text ≤ i → split [] ≡ [] ∷ [] → all ≡ text ∷ []
   part_last past one = is ∙ ap (λ l. onto_front (take i text) (split l)) (drop_all i text past)
       ∙ ap (onto_front (take i text)) one ∙ front_end (take i text) [] ∙ ap (λ l. l ∷ []) (take_all i text past)
-
--- a line's end, and any other byte
-pub head_lines-end : (byte : ℕ) (rest : List ℕ) → ends_line (byte ∷ rest) ≡ true
-    → head_lines (byte ∷ rest) ≡ [] ∷ head_lines (drop 1 rest)
-head_lines-end byte [] is = absurd (grind (arith, nat_tests))
-head_lines-end byte (next ∷ rest) is = rw is refl
-
-pub head_lines-other : (byte : ℕ) (rest : List ℕ) → ends_line (byte ∷ rest) ≡ false
-    → head_lines (byte ∷ rest) ≡ onto_first byte (head_lines rest)
-head_lines-other byte [] other = refl
-head_lines-other byte (next ∷ rest) other = rw other refl

@@ -9,7 +9,7 @@ use Rattle.memchr.specs.Find.{OccursAt}
 use Rattle.multipart.specs.declared.error.PartError.{PartError}
 use Rattle.multipart.specs.declared.error.PartError.TheVariants.{Boundary, LongHead, ManyParts, Memory}
 use Rattle.multipart.specs.declared.head.Place.{Place}
-use Rattle.multipart.specs.declared.head.Place.TheVariants.{Outside, Quoted, Escaped}
+use Rattle.multipart.specs.declared.head.Place.TheVariants.{Line, Return, Outside, Quoted}
 
 abbrev pub is_blank : ℕ → Bool
 is_blank byte = (byte == 32) || (byte == 9)
@@ -35,17 +35,6 @@ RefusesPiece boundary most head piece Boundary =
     IsSomeAnd most (λ n. length head + length piece ≤ n) × ¬ IsPartHead boundary (head ++ piece)
 RefusesPiece boundary most head piece e = ⊥
 
--- CR LF that no blank follows ends a line
-abbrev pub ends_line : List ℕ → Bool
-ends_line text = starts_with nat_eq text crlf && not (is_blank (slice_index text 2))
-
--- the lines of a head
-abbrev pub head_lines : List ℕ → List (List ℕ)
-head_lines [] = [] ∷ []
-head_lines (byte ∷ []) = (byte ∷ []) ∷ []
-head_lines (byte ∷ next ∷ rest) =
-    if ends_line (byte ∷ next ∷ rest) then [] ∷ head_lines rest else onto_first byte (head_lines (next ∷ rest))
-
 -- without ASCII white space around it
 abbrev pub trimmed : List ℕ → List ℕ
 trimmed text = let front = drop (prefix_len is_ascii_whitespace text) text in
@@ -60,27 +49,29 @@ abbrev pub first_among : (List ℕ → Option (List ℕ × List ℕ)) → List �
 first_among pair_of name parts =
     option_map (λ pair. pair.1) (find (λ pair. str_eq_ignore_ascii_case pair.0 name) (filter_map pair_of parts))
 
--- the value of the first field of this name, which stands before a colon
-abbrev pub field_of : List ℕ → List ℕ → Option (List ℕ)
-field_of head name = first_among (as_pair 58) name (head_lines head)
-
--- where the byte behind one stands: a quote begins and ends quotes, and in them a backslash takes the next byte with it
+-- where the byte behind one stands: behind a CR in a line or not, and a quote begins and ends quotes
 abbrev pub next_place : Place → ℕ → Place
 next_place Outside byte = if byte == 34 then Quoted else Outside
-next_place Quoted byte = if byte == 34 then Outside else (if byte == 92 then Escaped else Quoted)
-next_place Escaped byte = Quoted
+next_place Quoted byte = if byte == 34 then Outside else Quoted
+next_place place byte = if byte == 13 then Return else Line
 
--- what began so is closed: a piece by `;` outside of quotes, and what stands in them by a quote
-abbrev pub closes : Place → Place → ℕ → Bool
-closes Outside Outside byte = byte == 59
-closes Quoted Quoted byte = byte == 34
-closes began place byte = false
+-- the first of these bytes closes what began so: a line is closed by CR LF that no blank follows, a piece by `;` outside of
+-- quotes, and what stands in them by a quote
+abbrev pub closes : Place → Place → List ℕ → Bool
+closes Line Return text = starts_with nat_eq text (10 ∷ []) && not (is_blank (slice_index text 1))
+closes Outside Outside text = starts_with nat_eq text (59 ∷ [])
+closes Quoted Quoted text = starts_with nat_eq text (34 ∷ [])
+closes began place text = false
 
 -- a text cut where it is closed
 abbrev pub cut : Place → Place → List ℕ → List (List ℕ)
 cut began place [] = [] ∷ []
-cut began place (byte ∷ rest) = if closes began place byte then [] ∷ cut began began rest
+cut began place (byte ∷ rest) = if closes began place (byte ∷ rest) then [] ∷ cut began began rest
     else onto_first byte (cut began (next_place place byte) rest)
+
+-- the value of the first field of this name, which stands before a colon
+abbrev pub field_of : List ℕ → List ℕ → Option (List ℕ)
+field_of head name = first_among (as_pair 58) name (cut Line Line head)
 
 -- what is said behind `=`: what stands in quotes, or else all
 abbrev pub unquoted : List ℕ → List ℕ

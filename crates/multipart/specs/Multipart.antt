@@ -90,6 +90,8 @@ IsForm d = HasHead d.stand d
 -- before the first byte of a body with this boundary
 pub record IsBegun {S Q : Type 0} (reader : Buffered S Q) (boundary : List ℕ) (limits : Limits) (t : FormState S Q)
     : Type 0 where
+  pub some : 0 < length boundary
+  pub few : length boundary ≤ 70
   pub mark : t.body.coding.just.items ≡ 45 ∷ 45 ∷ boundary
   pub room : t.body.coding.room ≡ length boundary + 4
   pub body : t.body ≡ begun (codes t.body.coding) reader t.body.coding
@@ -142,7 +144,7 @@ module _ {S Q : Type 0} (remaining : S → Option (List ℕ)) (rules : ReadRules
   module _ (boundary : List ℕ) (most : Option ℕ) (s : Section S Q) where
     -- how it ends that a head is collected: it ended; or no more of it comes; or what is buffered of it is refused
     abbrev pub HeadEnds : List ℕ → Result (Unit {0}) PartError → Section S Q → Type 0
-    HeadEnds head (Ok _) t = EachGave s.reader t.reader × TookWholeBody (codes s.coding) t
+    HeadEnds head (Ok _) t = EachGave s.reader t.reader × TookWholeBody (codes t.coding) t
     HeadEnds head (Err e) t = ((w : BodyError (Unit {0})) × (e ≡ part_error w) × NoPayload (codes s.coding) s w t)
         ⊎ (EachGave s.reader t.reader × (0 < t.known) × RefusesPiece boundary most head (take t.known t.reader.block.bytes) e)
 

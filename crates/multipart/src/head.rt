@@ -2,7 +2,7 @@
 ghost use Rattle.std.specs.Prelude.{◌≡◌, ◌<◌, ◌≤◌, ◌==◌, [], ◌∷◌, length, position, IfSome};
 ghost use Rattle.std.specs.List.{prefix_len};
 ghost use Rattle.std.specs.Option.{option_copied, option_map, option_map_or};
-ghost use Rattle.multipart.specs.Head.{as_pair, as_parameter, texts_of, cut, ends_line, field_of, is_blank, closes, is_opening, head_lines, parameter_of, next_place, unquoted};
+ghost use Rattle.multipart.specs.Head.{as_pair, as_parameter, texts_of, cut, field_of, is_blank, closes, is_opening, parameter_of, next_place, unquoted};
 
 // Whether a byte is a space or a tab.
 fn is_blank(byte: u8) -> bool
@@ -29,26 +29,6 @@ pub(crate) fn is_opening(head: &[u8], blanks: usize) -> bool
     rest.is_empty() || rest.starts_with(b"\r\n")
 }
 
-// Whether a line ends here: by CR LF that no blank follows.
-fn ends_line(text: &[u8]) -> bool
-    ensures { result ≡ ends_line text.now }
-{
-    text.starts_with(b"\r\n") && !(text.len() > 2 && is_blank(text[2]))
-}
-
-// The first line, and what stands behind its end, if it has one.
-fn split_line(text: &[u8]) -> (&[u8], Option<&[u8]>)
-    ensures parts { head_lines text.now ≡ result.0.now ∷ option_map_or (λ rest. head_lines rest.now) result.1 [] }
-    ensures shorter { IfSome result.1 (λ rest. length rest.now < length text.now) }
-{
-    for i in 0..text.len() {
-        if ends_line(&text[i..]) {
-            return (&text[..i], Some(&text[i + 2..]));
-        }
-    }
-    (text, None)
-}
-
 // What stands before the first such byte, and behind it, without white space around that.
 fn as_pair(text: &[u8], byte: u8) -> Option<(&[u8], &[u8])>
     ensures { option_map texts_of result ≡ as_pair byte text.now }
@@ -72,7 +52,7 @@ pub fn field<'a>(head: &'a [u8], name: &[u8]) -> Option<&'a [u8]>
 {
     let mut left = Some(head);
     while let Some(text) = left {
-        let (line, rest) = split_line(text);
+        let (line, rest) = split_closed(text, Place::Line);
         if let Some((found, value)) = as_pair(line, b':') {
             if found.eq_ignore_ascii_case(name) {
                 return Some(value);
@@ -83,25 +63,31 @@ pub fn field<'a>(head: &'a [u8], name: &[u8]) -> Option<&'a [u8]>
     None
 }
 
-// Where a byte of a value stands.
+// Where a byte stands.
 #[derive(Clone, Copy)]
 enum Place {
-    // Outside of quotes.
+    // In a line of a head.
+    Line,
+    // In one, behind a CR.
+    Return,
+    // In a value, outside of quotes.
     Outside,
     // In quotes.
     Quoted,
-    // In quotes, behind a backslash, which takes it with it.
-    Escaped,
 }
 
 impl Place {
-    // Whether this byte closes what began there: `;` a piece outside of quotes, and a quote what stands in them.
-    fn closes(self, began: Place, byte: u8) -> bool
-        ensures { result ≡ closes began self byte }
+    // Whether the first of these bytes closes what began there: a line feed behind a CR, unless a blank follows, a line; `;` a
+    // piece outside of quotes; and a quote what stands in them.
+    fn closes(self, began: Place, text: &[u8]) -> bool
+        ensures { result ≡ closes began self text.now }
     {
         match (began, self) {
-            (Place::Outside, Place::Outside) => byte == b';',
-            (Place::Quoted, Place::Quoted) => byte == b'"',
+            (Place::Line, Place::Return) => {
+                text.starts_with(b"\n") && !(text.len() > 1 && is_blank(text[1]))
+            }
+            (Place::Outside, Place::Outside) => text.starts_with(b";"),
+            (Place::Quoted, Place::Quoted) => text.starts_with(b"\""),
             _ => false,
         }
     }
@@ -111,11 +97,11 @@ impl Place {
         ensures { result ≡ next_place self byte }
     {
         match self {
+            Place::Line | Place::Return if byte == b'\r' => Place::Return,
+            Place::Line | Place::Return => Place::Line,
             Place::Outside if byte == b'"' => Place::Quoted,
-            Place::Outside => Place::Outside,
             Place::Quoted if byte == b'"' => Place::Outside,
-            Place::Quoted if byte == b'\\' => Place::Escaped,
-            Place::Quoted | Place::Escaped => Place::Quoted,
+            Place::Outside | Place::Quoted => self,
         }
     }
 }
@@ -126,11 +112,11 @@ fn split_closed(text: &[u8], began: Place) -> (&[u8], Option<&[u8]>)
     ensures shorter { IfSome result.1 (λ rest. length rest.now < length text.now) }
 {
     let mut place = began;
-    for (i, byte) in text.iter().enumerate() {
-        if place.closes(began, *byte) {
+    for i in 0..text.len() {
+        if place.closes(began, &text[i..]) {
             return (&text[..i], Some(&text[i + 1..]));
         }
-        place = place.behind(*byte);
+        place = place.behind(text[i]);
     }
     (text, None)
 }
@@ -154,7 +140,7 @@ fn as_parameter(piece: &[u8]) -> Option<(&[u8], &[u8])>
 }
 
 /// What a parameter of a field's value says, as `name` of `form-data; name="a"`: what stands between its quotes, as it stands,
-/// or up to the next `;`, without white space around it.
+/// or up to the next `;`, without white space around it. In quotes a backslash is a byte as another, as in web forms.
 pub fn parameter<'a>(value: &'a [u8], name: &[u8]) -> Option<&'a [u8]>
     ensures value { option_copied result ≡ parameter_of value.now name.now }
 {

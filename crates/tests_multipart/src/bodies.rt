@@ -19,7 +19,7 @@ pub struct Body {
     pub behind: &'static [u8],
 }
 
-pub static PARTS: [Part; 13] = [
+pub static PARTS: [Part; 14] = [
     Part(b"comment", b"", b"", b"caf\xc3\xa9 & co"),
     Part(b"file", b"note.txt", b"text/plain", b"one\r\n--two\r\n"),
     Part(b"quoted %22name%22", b"", b"", b""),
@@ -38,9 +38,10 @@ pub static PARTS: [Part; 13] = [
     Part(b"", b"", b"", b""),
     Part(b"", b"", b"", b"\r\n"),
     Part(b"", b"", b"", b"\r\n--a\r\r\n-\r\n\r\n--"),
+    Part(b"a\\", b"b", b"", b""),
 ];
 
-pub static BODIES: [Body; 6] = [
+pub static BODIES: [Body; 7] = [
     // `curl -F`, of a text, a file, and two that are empty.
     Body {
         boundary: b"------------------------7e8e528b8b54de33",
@@ -153,5 +154,17 @@ pub static BODIES: [Body; 6] = [
         from: 12,
         count: 1,
         behind: b"",
+    },
+    // A browser: a backslash in quotes stands for itself.
+    Body {
+        boundary: b"----WebKitFormBoundaryQ",
+        bytes: b"------WebKitFormBoundaryQ\r\n\
+          Content-Disposition: form-data; name=\"a\\\"; filename=\"b\"\r\n\
+          \r\n\
+          \r\n\
+          ------WebKitFormBoundaryQ--\r\n",
+        from: 13,
+        count: 1,
+        behind: b"\r\n",
     },
 ];

@@ -1,4 +1,4 @@
-//! Multipart bodies of `curl`, of Python's `urllib3` and `email` and of RFC 2046, cut in every way.
+//! Multipart bodies of `curl`, of browsers, of Python's `urllib3` and `email` and of RFC 2046, cut in every way.
 #![tactic(auto)]
 
 #[cfg(test)]

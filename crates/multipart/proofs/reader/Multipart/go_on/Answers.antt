@@ -1,19 +1,7 @@
--- Where the head was collected its body was taken whole, as its end requires.
-use Rattle.std.proofs.Common.{inl, inr, refl, subst, sym}
+-- Where the head was collected it is ended.
+use Rattle.std.proofs.Common.{inl, inr, refl}
 use Rattle.std.proofs.lemmas.Result.{err_from_is_err_and}
-use Rattle.body_reader.specs.BodyReader.{IsBodyReader, TookWholeBody}
-use Rattle.multipart.specs.Multipart.{codes}
 use Rattle.multipart.proofs.reader.Multipart.go_on.Goals as goal
-
-pub end_head-requires-clause-whole : goal.end_head-requires-clause-whole
-end_head-requires-clause-whole g c =
-    let head = c.in_ok-collect.ensures.1 in
-    subst (λ x. TookWholeBody (codes x) c.collect.new.self.body) (sym head.takes.went.coding) head.ends.1
-
-pub end_head-requires-clause-reader : goal.end_head-requires-clause-reader
-end_head-requires-clause-reader g c =
-    let head = c.in_ok-collect.ensures.1 in
-    subst (λ x. IsBodyReader (codes x) c.collect.new.self.body) (sym head.takes.went.coding) head.takes.whole
 
 pub returns-in_err-collect : goal.returns-in_err-collect
 returns-in_err-collect g c =
