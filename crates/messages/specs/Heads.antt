@@ -49,20 +49,25 @@ is_expected e = (length e == 0) || eq_ignore_case e (codes "100-continue")
 abbrev pub is_met : List ℕ × List ℕ → Bool
 is_met h = not (is_named (codes "expect") h) || list_all is_expected (elements h.1)
 
--- these bytes are just the head of a request of HTTP/1.0 or 1.1, which says so (RFC 9112, section 6): at most one field says
--- where the body ends, with no coding but `chunked`, no tunnel begins behind it, its target is one, and it has one `Host`, which
--- HTTP/1.0 may leave out, and which names a host. An answer to `HEAD` has no body
+-- a request with these fields says plainly for whom it is, and where its body ends (RFC 9112, section 6): at most one field says
+-- that, with no coding but `chunked`, no tunnel begins behind it, its target is one, and it has one `Host`, which HTTP/1.0 may
+-- leave out, and which names a host or is empty
+pub record SaysPlainly (method target : List ℕ) (minor : ℕ) (fields : List (List ℕ × List ℕ)) (known : KnownFields)
+    (extent : Extent) : Type 0 where
+  pub host : IsTrue (has_one_host minor known)
+  pub single : known.framing_fields ≤ 1
+  pub open' : method_kind method ≢ kind.Connect
+  pub uncoded : known.other_coding ≡ false
+  pub hosts : All IsPlainField fields
+  pub form : IsTarget method target
+  pub framed : extent_of (request_framing (method_kind method) minor known) ≡ Some extent
+
+-- these bytes are just the head of a request of HTTP/1.0 or 1.1, which says so. An answer to `HEAD` has no body
 pub record IsKnownHead (limits : Limits) (bytes : List ℕ) (said : ParsedHead) : Type 0 where
   pub head : RequestHead
   pub reads : ReadsRequest bytes head []
   pub few : length head.fields ≤ fields_of limits
-  pub host : IsTrue (has_one_host head.minor (known_of head.fields))
-  pub single : (known_of head.fields).framing_fields ≤ 1
-  pub open' : method_kind head.method ≢ kind.Connect
-  pub uncoded : (known_of head.fields).other_coding ≡ false
-  pub hosts : All IsPlainField (map name_and_value head.fields)
-  pub target : IsTarget head.method head.target
-  pub framed : extent_of (request_framing (method_kind head.method) head.minor (known_of head.fields)) ≡ Some said.extent
+  pub plain : SaysPlainly head.method head.target head.minor (map name_and_value head.fields) (known_of head.fields) said.extent
   pub bare : IsTrue said.bare ↔ (method_kind head.method ≡ kind.Head)
   pub keeps : said.keeps ≡ keeps head.minor (known_of head.fields)
   pub expects : said.expects ≡ expects head.minor (known_of head.fields)

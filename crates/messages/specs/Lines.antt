@@ -1,5 +1,5 @@
 -- The lines of a head, read byte by byte, and what is wrong with those that are none.
-use Rattle.std.specs.Prelude.{ℕ, ◌+◌, ◌==◌, ◌&&◌, ◌||◌, not, nat_lt, if◌then◌else◌, Bool, true, false, List, [], ◌∷◌, codes, slice_index, take}
+use Rattle.std.specs.Prelude.{◌≡◌, ℕ, ◌+◌, ◌==◌, ◌&&◌, ◌||◌, not, nat_lt, if◌then◌else◌, Bool, true, false, All, List, [], ◌∷◌, codes, slice_index, take}
 use Rattle.std.specs.Char.{is_ascii_digit}
 use Rattle.codec.specs.declared.HeaderError.{HeaderError}
 use Rattle.codec.specs.declared.scan.ScanStep.{ScanStep}
@@ -7,12 +7,12 @@ use Rattle.codec.specs.declared.scan.ScanStep.TheVariants.{More, Sized, Bad}
 use Rattle.codec.specs.Grammar.{Grammar}
 use Rattle.codec.specs.HeaderFormat.{length_prefixed}
 use Rattle.codec.specs.Scanning.{Scanning, scanned}
-use Rattle.httparse.specs.Grammar.{is_token_byte, is_uri_byte}
+use Rattle.httparse.specs.Grammar.{crlf, is_token_byte, is_uri_byte, RequestHead}
 use Rattle.messages.specs.declared.bad_head.BadHead.{BadHead}
 use Rattle.messages.specs.declared.bad_head.BadHead.TheVariants as bad
 use Rattle.messages.specs.declared.bad_head.BadHead.TheVariants.{BareEnd, LongLine, LongHead, Refused}
 use Rattle.messages.specs.declared.lines.Before.{Before}
-use Rattle.messages.specs.declared.lines.Before.TheVariants.{Start, StartReturn, Method, Space, Target, Version, FirstReturn, Feed, Text, Return, EmptyReturn}
+use Rattle.messages.specs.declared.lines.Before.TheVariants.{Start, StartReturn, Method, Space, Target, Version, OtherVersion, FirstReturn, Feed, Text, Return, EmptyReturn}
 
 -- behind so many bytes a version goes on with this one: `HTTP/`, a digit, a dot, a digit
 abbrev pub has_version_byte : ℕ → ℕ → Bool
@@ -27,10 +27,12 @@ turn Start byte = if is_token_byte byte then More Method else (if byte == 13 the
 turn StartReturn byte = if byte == 10 then More Start else Bad
 turn Method byte = if is_token_byte byte then More Method else (if byte == 32 then More Space else Bad)
 turn Space byte = if is_uri_byte byte then More Target else Bad
-turn Target byte = if is_uri_byte byte then More Target else (if byte == 32 then More (Version 0 false) else Bad)
-turn (Version at other) byte =
-    if has_version_byte at byte then More (Version (at + 1) (other || ((at == 5) && not (byte == 49))))
-    else (if (byte == 13) && ((at == 8) && not other) then More FirstReturn else Bad)
+turn Target byte = if is_uri_byte byte then More Target else (if byte == 32 then More (Version 0) else Bad)
+turn (Version at) byte =
+    if has_version_byte at byte
+    then (if (at == 5) && not (byte == 49) then More (OtherVersion (at + 1)) else More (Version (at + 1)))
+    else (if (byte == 13) && (at == 8) then More FirstReturn else Bad)
+turn (OtherVersion at) byte = if has_version_byte at byte then More (OtherVersion (at + 1)) else Bad
 turn FirstReturn byte = if byte == 10 then More Feed else Bad
 turn Feed byte = if byte == 13 then More EmptyReturn else (if byte == 10 then Bad else More Text)
 turn Text byte = if byte == 13 then More Return else (if byte == 10 then Bad else More Text)
@@ -62,15 +64,15 @@ is_behind_first place = false
 
 -- the first line names a version whose first digit isn't 1
 abbrev pub names_other : Before → Bool
-names_other (Version at other) = (at == 8) && other
+names_other (OtherVersion at) = at == 8
 names_other place = false
 
 -- what is too long, where a head may have no more bytes than lead here: its first line, or the head
 abbrev pub too_long : Before → BadHead
 too_long place = if is_behind_first place then LongHead else LongLine
 
--- what is wrong where this byte goes no further: a CR or an LF is none of a CR LF; or no request line goes on so, where one that
--- names another version would end
+-- what is wrong where this byte goes no further: it is an LF behind no CR, or follows a CR; or no request line goes on so, where
+-- one that names another version would end
 abbrev pub turn_fault : Before → ℕ → BadHead
 turn_fault place byte =
     if (byte == 10) || is_return place then BareEnd
@@ -89,3 +91,10 @@ fault_on place (byte ∷ bytes) = fault_then (turn place byte) (turn_fault place
 -- and with lines that can't become those of a head, of which no more bytes count than a head has
 abbrev pub line_fault : List ℕ → BadHead
 line_fault bytes = fault_on Start (take 16384 bytes)
+
+-- each line of a head ends by CR LF
+pub record EndsByBoth (h : RequestHead) : Type 0 where
+  pub blank : All (λ end. end ≡ crlf) h.blank
+  pub first : h.line_end ≡ crlf
+  pub fields : All (λ f. f.end ≡ crlf) h.fields
+  pub last : h.last ≡ crlf

@@ -5,6 +5,7 @@ use Rattle.std.proofs.Common.{sym, ap, subst, ◌∙◌, arith, refl, append_ass
 use Rattle.std.proofs.lemmas.Bool.{le-leb, ne_eqb}
 use Rattle.std.proofs.lemmas.List.{append-nil, drop_all}
 use Rattle.httparse.specs.Grammar.{AllPass, crlf, Field, is_token_byte, is_uri_byte, is_value_byte, IsField, IsRequestHead, LineEnd, print_blank, print_end, print_field, print_request, print_section, print_version, RequestHead}
+use Rattle.messages.specs.Lines.{EndsByBoth}
 use Rattle.messages.specs.Names.{All-head, All-tail, Bad, Before, EmptyReturn, false≢true, fault_on, fault_then, Feed, FirstReturn, HeaderError, IsLawful, line_fault, lines, Method, More, Return, scanned_headers, ScanStep, Sized, Space, Start, StartReturn, Target, Text, texts, turn, turn_fault, Version}
 use Rattle.messages.specs.declared.bad_head.BadHead.{BadHead}
 use Rattle.codec.specs.declared.HeaderError.TheVariants.{NoHeader, TooLong, NoTail, Truncated}
@@ -52,13 +53,6 @@ not_short bytes (Truncated have) wrong short = absurd wrong
 pub line_fault_stays : (bytes more : List ℕ) (why : HeaderError) → texts.wrong bytes why
     → line_fault (bytes ++ more) ≡ line_fault bytes
 line_fault_stays bytes more why wrong = fault_stays 16384 Start 0 bytes more (not_short bytes why wrong)
-
--- each line of a head ends by CR LF
-pub record EndsByBoth (h : RequestHead) : Type 0 where
-  pub blank : All (λ end. end ≡ crlf) h.blank
-  pub first : h.line_end ≡ crlf
-  pub fields : All (λ f. f.end ≡ crlf) h.fields
-  pub last : h.last ≡ crlf
 
 -- such bytes lead on from the one place to the other, and stay there
 some_lead : (from place : Before) (test : ℕ → Bool) → ((b : ℕ) → test b ≡ true → turn from b ≡ More place)
@@ -121,35 +115,35 @@ fields_lead (f ∷ fields) are ends =
     (field_leads f (All-head IsField f fields are) (All-head (λ f. f.end ≡ crlf) f fields ends))
     (fields_lead fields (All-tail IsField f fields are) (All-tail (λ f. f.end ≡ crlf) f fields ends))
 
-version_leads : (minor : ℕ) → minor ≤ 9 → LeadsTo turn (Version 0 false) (print_version minor) (Version 8 false)
+version_leads : (minor : ℕ) → minor ≤ 9 → LeadsTo turn (Version 0) (print_version minor) (Version 8)
 version_leads minor small =
     let digit : is_ascii_digit (48 + minor) ≡ true =
     ap (λ t. t && nat_le (48 + minor) 57) (le-leb 48 (48 + minor) (omega arith))
     ∙ le-leb (48 + minor) 57 (omega (arith, small)) in (
-      Version 1 false,
+      Version 1,
       refl,
       (
-        Version 2 false,
+        Version 2,
         refl,
         (
-          Version 3 false,
+          Version 3,
           refl,
           (
-            Version 4 false,
+            Version 4,
             refl,
             (
-              Version 5 false,
+              Version 5,
               refl,
               (
-                Version 6 false,
+                Version 6,
                 refl,
                 (
-                  Version 7 false,
+                  Version 7,
                   refl,
                   (
-                    Version 8 false,
-                    ap (λ t. if t then More (Version 8 false) else
-                        (if (48 + minor == 13) && ((7 == 8) && not false) then More FirstReturn else Bad)) digit,
+                    Version 8,
+                    ap (λ t. if t then More (Version 8) else
+                        (if (48 + minor == 13) && (7 == 8) then More FirstReturn else Bad)) digit,
                     refl,
                   ),
                 ),
@@ -177,16 +171,16 @@ request_lines h minor is small ends few =
     let section : LeadsTo turn Feed (fields ++ 13 ∷ []) EmptyReturn =
     leads_then turn Feed fields Feed (13 ∷ []) EmptyReturn (fields_lead h.fields is.fields ends.fields) (EmptyReturn, refl, refl)
     in
-    let version : LeadsTo turn (Version 0 false) behind EmptyReturn =
-    leads_then turn (Version 0 false) (print_version minor) (Version 8 false) line EmptyReturn
+    let version : LeadsTo turn (Version 0) behind EmptyReturn =
+    leads_then turn (Version 0) (print_version minor) (Version 8) line EmptyReturn
     (version_leads minor small)
-    (subst (λ e. LeadsTo turn (Version 8 false) (print_end e ++ (fields ++ 13 ∷ [])) EmptyReturn) (sym ends.first)
+    (subst (λ e. LeadsTo turn (Version 8) (print_end e ++ (fields ++ 13 ∷ [])) EmptyReturn) (sym ends.first)
     (FirstReturn, refl, (Feed, refl, section))) in
     let target : LeadsTo turn Space (h.target ++ 32 ∷ behind) EmptyReturn =
     leads_then turn Space h.target Target (32 ∷ behind) EmptyReturn
     (some_lead Space Target is_uri_byte (λ b yes. ap (λ t. if t then More Target else Bad) yes)
-    (λ b yes. ap (λ t. if t then More Target else (if b == 32 then More (Version 0 false) else Bad)) yes) h.target is.target.0
-    is.target.1) (Version 0 false, refl, version) in
+    (λ b yes. ap (λ t. if t then More Target else (if b == 32 then More (Version 0) else Bad)) yes) h.target is.target.0
+    is.target.1) (Version 0, refl, version) in
     let method : LeadsTo turn Start (h.method ++ 32 ∷ (h.target ++ 32 ∷ behind)) EmptyReturn =
     leads_then turn Start h.method Method (32 ∷ (h.target ++ 32 ∷ behind)) EmptyReturn
     (some_lead Start Method is_token_byte

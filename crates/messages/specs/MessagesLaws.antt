@@ -33,8 +33,8 @@ one_message limits a b xs ys h k p q m n same =
     let is = subst (λ l. IsHead limits l n.text.said) (sym head) n.text.is in
     let here = m.text.is.known in
     let says = request_unique (as_known h) here.head is.known.head [] [] here.reads is.known.reads in
-    let both = sym here.framed
-    ∙ ap (λ h. extent_of (request_framing (method_kind h.method) h.minor (known_of h.fields))) says.0 ∙ is.known.framed in
+    let both = sym here.plain.framed
+    ∙ ap (λ h. extent_of (request_framing (method_kind h.method) h.minor (known_of h.fields))) says.0 ∙ is.known.plain.framed in
     let extent : m.text.said.extent ≡ n.text.said.extent = cc in
     let body = (body_lawful (coding_of limits m.text.said.extent)).one m.wire n.wire p q xs ys m.body
     (subst (λ e. IsBody (body_rules (coding_of limits e)) n.wire q) (sym extent) n.body) behind in (

@@ -82,7 +82,7 @@ IsBracketed text = let len = address_len text in
 abbrev pub IsHostAndPort : List ℕ → Type 0
 IsHostAndPort text = IsTrue (is_name text) ⊎ (IsTrue (has_at text 0 91) × IsBracketed (drop 1 text))
 
--- the value of a `Host` (RFC 9112, section 3.2)
+-- the value of a `Host`, which may be empty (RFC 9112, section 3.2)
 abbrev pub IsHost : List ℕ → Type 0
 IsHost text = HasWholeEscapes text × IsHostAndPort text
 

@@ -1,37 +1,16 @@
 //! Why a text whose lines end as those of a head is none.
 ghost use Rattle.std.specs.Prelude.{◌≡◌};
-ghost use Rattle.messages.specs.Faults.{IsHeadFault, ends_chunked, has_many_lines, lines_fault, said_fault, text_fault};
+ghost use Rattle.messages.specs.Faults.{ends_chunked, has_many_lines, lines_fault, said_fault, text_fault};
 
 use crate::bad_head::BadHead;
-use crate::head::{MAX_FIELDS, has_one_host};
+use crate::head::has_one_host;
 use crate::limits::{Limits, fields_of};
 use crate::version::{blank_len, first_len, has_other_version};
 use http1::fields::KnownFields;
 use http1::framing::{Framing, FramingError, MethodKind, request_framing};
-use httparse::Status;
-use httparse::spans::{EMPTY_HEADER_SPAN, parse_request};
 
-/// If these bytes are no head that counts here, this is why. The first line is read once more for it.
-pub(crate) fn fault(head: &[u8], limits: Limits) -> BadHead
-    ensures { IsHeadFault limits head.now result }
-{
-    let mut fields = [EMPTY_HEADER_SPAN; MAX_FIELDS];
-    let Ok(Status::Complete(spans)) = parse_request(head, &mut fields) else {
-        return text_fault(head, limits);
-    };
-    if spans.len < head.len() {
-        return text_fault(head, limits);
-    }
-    if spans.headers > fields_of(limits) {
-        return text_fault(head, limits);
-    }
-    let known = KnownFields::from_spans(head, &fields[..spans.headers]);
-    let name = spans.method.of(head);
-    let method = MethodKind::of(name);
-    said_fault(method, spans.version, &known)
-}
-
-fn said_fault(method: MethodKind, minor: u8, known: &KnownFields) -> BadHead
+/// What is wrong with a head that says this, if it isn't plain.
+pub(crate) fn said_fault(method: MethodKind, minor: u8, known: &KnownFields) -> BadHead
     ensures { result ≡ said_fault method minor known.now }
 {
     if !has_one_host(minor, known) || known.framing_fields > 1 {
@@ -56,7 +35,8 @@ fn ends_chunked(framing: Result<Framing, FramingError>) -> bool
     }
 }
 
-fn text_fault(bytes: &[u8], limits: Limits) -> BadHead
+/// What is wrong with a text that is no head of a request with so few fields.
+pub(crate) fn text_fault(bytes: &[u8], limits: Limits) -> BadHead
     ensures { result ≡ text_fault limits bytes.now }
 {
     lines_fault(&bytes[blank_len(bytes)..], limits)

@@ -1,14 +1,17 @@
 //! Heads of requests as pieces, and what they say of the body.
-ghost use Rattle.std.specs.Prelude.{◌≡◌, ◌<◌, ◌≤◌, ◌↔◌, IfErr, IfNone, IfOk, IfSome, IsTrue, OnErr, length, slice_set};
+ghost use Rattle.std.specs.Prelude.{◌≡◌, ◌<◌, ◌≤◌, ◌↔◌, All, IfErr, IfNone, IfOk, IfSome, IsTrue, OnErr, Some, length, map, slice_set};
+ghost use Rattle.http1.specs.Framing.{method_kind};
 ghost use Rattle.http1.specs.Message.{has_one_host};
+ghost use Rattle.httparse.specs.Spans.{IsHeaderWithin, header_bytes};
+ghost use Rattle.messages.specs.declared.head.Extent.{Extent};
 ghost use Rattle.messages.specs.declared.head.ParsedHead.{ParsedHead};
 ghost use Rattle.messages.specs.Faults.{IsHeadFault};
 ghost use Rattle.messages.specs.Limits.{usual};
-ghost use Rattle.messages.specs.Heads.{IsHead, IsKnownHead, IsRefused, expects, extent_of, keeps};
+ghost use Rattle.messages.specs.Heads.{IsHead, IsKnownHead, IsRefused, SaysPlainly, expects, extent_of, keeps};
 
 use crate::bad_head::BadHead;
 use crate::expect::are_met;
-use crate::faults::fault;
+use crate::faults::{said_fault, text_fault};
 use crate::limits::{Limits, fields_of};
 use crate::lines::{Before, Lines, line_fault};
 use crate::target::{are_hosts_plain, is_target};
@@ -17,7 +20,7 @@ use codec::{ByHeader, ByScan, Decoder, End, Found, ScanNote, Span};
 use http1::fields::KnownFields;
 use http1::framing::{Framing, FramingError, MethodKind, request_framing};
 use httparse::Status;
-use httparse::spans::{EMPTY_HEADER_SPAN, parse_request};
+use httparse::spans::{EMPTY_HEADER_SPAN, HeaderSpan, parse_request};
 
 /// No head has more bytes.
 pub const MAX_HEAD: usize = 16384;
@@ -106,8 +109,8 @@ fn refused(text: &[u8], limits: Limits) -> Option<BadHead>
 }
 
 /// What a head says: these bytes are just a head, of HTTP/1.0, or of 1.1 and later ones, which are read as 1.1, whose target is
-/// one, with one `Host`, which 1.0 may leave out and which names a host, and at most one field that says where the body ends, as
-/// RFC 9112, section 6 has it, with no coding but `chunked`. `CONNECT` is refused: a tunnel begins behind it. An `Err` says why
+/// one, with one `Host`, which 1.0 may leave out and which names a host or is empty, and at most one field that says where the
+/// body ends, as RFC 9112, section 6 has it, with no coding but `chunked`. `CONNECT` is refused: a tunnel begins behind it. An `Err` says why
 /// they are none.
 pub fn read_head(head: &[u8]) -> Result<ParsedHead, BadHead>
     ensures few { IfOk result (λ _. length head.now ≤ 16384) }
@@ -155,56 +158,64 @@ fn read_known(head: &[u8], limits: Limits) -> Result<ParsedHead, BadHead>
     ensures none { OnErr result ((said : ParsedHead) → ¬ (IsKnownHead limits head.now said)) }
     ensures fault { IfErr result (IsHeadFault limits head.now) }
 {
-    match said_of(head, limits) {
-        Some(said) => Ok(said),
-        None => Err(fault(head, limits)),
-    }
-}
-
-// The same, where nobody asks why.
-fn said_of(head: &[u8], limits: Limits) -> Option<ParsedHead>
-    ensures some { IfSome result (λ said. IsKnownHead limits head.now said) }
-    ensures none { IfNone result ((said : ParsedHead) → ¬ (IsKnownHead limits head.now said)) }
-{
     let mut fields = [EMPTY_HEADER_SPAN; MAX_FIELDS];
     let Ok(Status::Complete(spans)) = parse_request(head, &mut fields) else {
-        return None;
+        return Err(text_fault(head, limits));
     };
     if spans.len < head.len() {
-        return None;
+        return Err(text_fault(head, limits));
     }
     if spans.headers > fields_of(limits) {
-        return None;
+        return Err(text_fault(head, limits));
     }
-    let known = KnownFields::from_spans(head, &fields[..spans.headers]);
-    if known.framing_fields > 1 || !has_one_host(spans.version, &known) {
-        return None;
-    }
+    let found = &fields[..spans.headers];
+    let known = KnownFields::from_spans(head, found);
     let name = spans.method.of(head);
     let target = spans.path.of(head);
     let method = MethodKind::of(name);
+    match plain_extent(head, found, method, name, target, spans.version, &known) {
+        Some(extent) => Ok(ParsedHead {
+            extent,
+            bare: is_bare(method),
+            keeps: keeps(spans.version, &known),
+            expects: expects(spans.version, &known),
+            met: are_met(head, found),
+        }),
+        None => Err(said_fault(method, spans.version, &known)),
+    }
+}
+
+// Where the body ends, if that, and for whom the request is, is said plainly.
+fn plain_extent(
+    head: &[u8],
+    fields: &[HeaderSpan],
+    method: MethodKind,
+    name: &[u8],
+    target: &[u8],
+    minor: u8,
+    known: &KnownFields,
+) -> Option<Extent>
+    requires within { All (IsHeaderWithin (length head.now)) fields.now }
+    requires method { method ≡ method_kind name.now }
+    ensures { (extent : Extent) → ((result ≡ Some extent)
+        ↔ SaysPlainly name.now target.now minor (map (header_bytes head.now) fields.now) known.now extent) }
+{
+    if known.framing_fields > 1 || !has_one_host(minor, known) {
+        return None;
+    }
     if is_connect(method) {
         return None;
     }
     if known.other_coding {
         return None;
     }
-    if !are_hosts_plain(head, &fields[..spans.headers]) {
+    if !are_hosts_plain(head, fields) {
         return None;
     }
     if !is_target(name, target) {
         return None;
     }
-    match extent_of(request_framing(method, spans.version, &known)) {
-        Some(extent) => Some(ParsedHead {
-            extent,
-            bare: is_bare(method),
-            keeps: keeps(spans.version, &known),
-            expects: expects(spans.version, &known),
-            met: are_met(head, &fields[..spans.headers]),
-        }),
-        None => None,
-    }
+    extent_of(request_framing(method, minor, known))
 }
 
 // Where the body ends, if that is said plainly.

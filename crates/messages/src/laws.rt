@@ -1,8 +1,11 @@
 //! Laws, each as the contract of a function. One that no call keeps assumes whole grammars and exact relations, so no fact of few
 //! words stands in front of it.
-ghost use Rattle.std.specs.Prelude.{◌≡◌, ℕ, ◌<◌, List, ◌∷◌, [], ◌++◌, length, false, IfErr, IfOk, Some};
+ghost use Rattle.std.specs.Prelude.{◌≡◌, ℕ, ◌<◌, ◌≤◌, List, ◌∷◌, [], ◌++◌, length, false, IfErr, IfOk, Some};
 ghost use Rattle.buffer_redux.specs.Unbuffer.{Unbuffered, unbuffer_remaining};
+ghost use Rattle.codec.specs.declared.HeaderError.{HeaderError};
 ghost use Rattle.codec.specs.PieceReader.{ReaderState, left_of, rest};
+ghost use Rattle.httparse.specs.Grammar.{IsRequestHead, RequestHead, print_request};
+ghost use Rattle.messages.specs.Lines.{EndsByBoth, texts};
 ghost use Rattle.messages.specs.declared.head.Heads as head;
 ghost use Rattle.messages.specs.Messages.{AreMessages, Begun, EachReadGave, FinishesBody, InBody, InsideGoes, Message, MessagesWent, room_of};
 ghost use Rattle.messages.specs.declared.limits.Limits.{Limits};
@@ -12,6 +15,13 @@ use crate::body::Body;
 use crate::error::BodyError;
 use crate::requests::{Requests, Stop};
 use buffer_redux::tell::{Tell, TellRead};
+
+/// No beginning of the head of a request is refused by its lines, of HTTP/1.0 to 1.9, where CR LF ends each.
+pub fn never_refused()
+    ensures { (h : RequestHead) (minor : ℕ) → IsRequestHead h → minor ≤ 9 → EndsByBoth h
+        → length (print_request (record h { minor = minor })) ≤ 16384 → (front more : List ℕ)
+        → print_request (record h { minor = minor }) ≡ front ++ more → (why : HeaderError) → ¬ (texts.wrong front why) }
+{}
 
 /// No message begins another: a text is cut into so many messages in one way.
 pub fn one_cut()

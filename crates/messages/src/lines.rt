@@ -20,8 +20,10 @@ pub enum Before {
     Space,
     /// A byte of the target.
     Target,
-    /// The space behind that, and so many bytes of the version; and whether its first digit is another than 1.
-    Version(u8, bool),
+    /// The space behind that, and so many bytes of a version, whose first digit is 1.
+    Version(u8),
+    /// The same of one with another first digit.
+    OtherVersion(u8),
     /// A CR behind that.
     FirstReturn,
     /// The end of a line.
@@ -73,14 +75,22 @@ impl Scan for Lines {
             },
             Before::Target => match byte {
                 _ if is_uri_token(byte) => ScanStep::More(Before::Target),
-                b' ' => ScanStep::More(Before::Version(0, false)),
+                b' ' => ScanStep::More(Before::Version(0)),
                 _ => ScanStep::Bad,
             },
-            Before::Version(at, other) => match byte {
+            Before::Version(at) => match byte {
                 _ if has_version_byte(at, byte) => {
-                    ScanStep::More(Before::Version(at + 1, other || at == 5 && byte != b'1'))
+                    if at == 5 && byte != b'1' {
+                        ScanStep::More(Before::OtherVersion(at + 1))
+                    } else {
+                        ScanStep::More(Before::Version(at + 1))
+                    }
                 }
-                b'\r' if at == 8 && !other => ScanStep::More(Before::FirstReturn),
+                b'\r' if at == 8 => ScanStep::More(Before::FirstReturn),
+                _ => ScanStep::Bad,
+            },
+            Before::OtherVersion(at) => match byte {
+                _ if has_version_byte(at, byte) => ScanStep::More(Before::OtherVersion(at + 1)),
                 _ => ScanStep::Bad,
             },
             Before::FirstReturn => match byte {
@@ -183,7 +193,7 @@ fn names_other(place: Before) -> bool
     ensures { result ≡ names_other place }
 {
     match place {
-        Before::Version(at, other) => at == 8 && other,
+        Before::OtherVersion(at) => at == 8,
         _ => false,
     }
 }

@@ -183,7 +183,7 @@ fn is_host(text: &[u8]) -> bool
     has_whole_escapes(text) && is_host_and_port(text)
 }
 
-// Whether this field is none that names a host, or names one.
+// Whether this field is no `Host`, or names a host or is empty.
 fn is_plain(head: &[u8], span: &HeaderSpan) -> bool
     requires { IsHeaderWithin (length head.now) span.now }
     ensures { IsTrue result ↔ IsPlainField (header_bytes head.now span.now) }
@@ -191,7 +191,7 @@ fn is_plain(head: &[u8], span: &HeaderSpan) -> bool
     !eq_ignore_case(span.name.of(head), b"host") || is_host(span.value.of(head))
 }
 
-/// Whether each `Host` among these fields names a host.
+/// Whether each `Host` among these fields names a host, or is empty.
 pub(crate) fn are_hosts_plain(head: &[u8], spans: &[HeaderSpan]) -> bool
     requires { All (IsHeaderWithin (length head.now)) spans.now }
     ensures { IsTrue result ↔ All IsPlainField (map (header_bytes head.now) spans.now) }
