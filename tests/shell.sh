@@ -575,6 +575,7 @@ run_requests() {
     READS='28*' WRITES='e' CALLS=$scratch/calls LD_PRELOAD=$system "$program" < "$scratch/in" > "$scratch/out" 2> "$scratch/err"
     ended "$name as a write fails" $? 1 'Error: Os { code: 5, kind: Uncategorized, message: "Input/output error" }'
     if [ "$(grep -c r "$scratch/calls")" -ne 1 ]; then wrong "$name as a write fails: it asks again" "$scratch/calls"; fi
+    holds "$name as a write fails" "$nothing"
     if [ -c /dev/full ] && (: > /dev/full) 2> "$scratch/none"; then
         "$program" < "$scratch/in" > /dev/full 2> "$scratch/err"
         ended "$name into a full device" $? 1 \

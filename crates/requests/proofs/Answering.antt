@@ -1,33 +1,32 @@
 -- Answers, one after another.
-use Rattle.std.proofs.Common.{IfSome, ◌≡◌, ℕ, Bool, true, false, List, [], ◌++◌, length, Option, None, Some, Result, Ok, Err, sym, subst, inl, inr, refl, arith}
-use Rattle.requests.proofs.Names.{All-nil, answered, AnswersEach, AnswersWhole, AwaitsBody, BadRequest, Begun, Begun-message, Begun-went, body_rules, Both, Buffered, CallsFor, coding_of, early_refusal, Ending, ending_of, EndsOnce, EndsUntaken, Enters, Error, faults_of, handed_of, HandsOutInOrder-none, Heads, heads, InBody, Inside, InsideGoes, Io, is_known, is_large, IsAwaited, IsBody, IsLastTurn, IsMessage, IsOpen, IsPartTaken, IsToBeRefused, LargeBody, left_of, MayFollow, Message, OnlyInterrupts, Over, ParsedHead, Place, ReaderState, refusal, Refusal, RunEndsBy, RunsToLast, sending_of, sent_till, StdPolicy, stream_at, stream_in, StreamLog, StreamWent-joins, StreamWent-none, TakeFails, TakesWhole, Truncated, Unbuffered, Unread, Untaken, usual, WritesParts, WritesPromptly, Wrong}
+use Rattle.std.proofs.Common.{IfSome, ◌≡◌, ℕ, Bool, true, false, List, [], ◌++◌, length, Option, None, Some, Result, Ok, Err, sym, subst, inl, inr, refl}
+use Rattle.requests.proofs.Names.{All-nil, answered, AnswersEach, AnswersWhole, AsksFew, AwaitsBody, BadRequest, Begun, Begun-message, Begun-went, body_rules, Both, Buffered, CallsFor, coding_of, early_refusal, Ending, ending_of, EndsUntaken, Enters, Error, faults_of, handed_of, HandsOutInOrder-none, Heads, heads, InBody, Inside, InsideGoes, Io, is_known, is_large, IsAwaited, IsBody, IsLastTurn, IsMessage, IsOpen, IsPartTaken, IsToBeRefused, LargeBody, left_of, MayFollow, Message, OnlyInterrupts, Over, ParsedHead, Place, Prompt, ReaderState, Refusal, refusal, RunEndsBy, RunsToLast, sending_of, sent_till, StdPolicy, stream_at, stream_in, StreamLog, StreamWent-joins, StreamWent-none, TakeFails, TakesWhole, Truncated, Unbuffered, Unread, Untaken, usual, WritesParts, Wrong}
 use Rattle.requests.specs.declared.Ending.TheVariants as stop
 use Rattle.requests.specs.declared.taking.Untaken.TheVariants.{Body, Large, Unsent, Many}
-use Rattle.requests.proofs.Reading.{IsMany-still, IsToBeRefused-still, FailsInRead-still, begun_head, begun_once, begun_steady, begun_usual, is_part, joined, part_went}
-use Rattle.requests.proofs.Sending.{WritesPromptly-none, WritesPromptly-on}
+use Rattle.requests.proofs.Reading.{AsksFew-after, IsMany-still, IsToBeRefused-still, FailsInRead-still, begun_head, begun_steady, begun_usual, is_part, joined, part_went}
+use Rattle.requests.proofs.Sending.{Prompt-none, Prompt-on}
 
 module _ {W : Type 0} {tells : W → StreamLog} {trace : W → W → Type 0} where
   -- more of a body is asked for only where its head settles no refusal
-  awaits : {R : Type 0} → ((u : W) → trace u u) → ((u v x : W) → trace u v → trace v x → trace u x) → (head : List ℕ)
-      (said : ParsedHead) {a b : Both R W} (sending : Result (Unit {0}) Error) → early_refusal (is_known head) said ≡ None
-      → WritesPromptly tells trace (IsAwaited said.extent) a sending b
-      → WritesPromptly tells trace (AwaitsBody head said) a sending b
-  awaits none joins head said {a} {b} sending open' = WritesPromptly-on joins (IsAwaited said.extent) (AwaitsBody head said) a a b
-      sending (HandsOutInOrder-none a.0) (λ more is. (open', is)) (WritesPromptly-none (AwaitsBody head said) none a)
+  awaits : {R : Type 0} (head : List ℕ) (said : ParsedHead) {a b : Both R W} (sending : Result (Unit {0}) Error)
+      → early_refusal (is_known head) said ≡ None
+      → Prompt tells trace (IsAwaited said.extent) a sending b
+      → Prompt tells trace (AwaitsBody head said) a sending b
+  awaits head said {a} {b} sending open' = Prompt-on (IsAwaited said.extent) (AwaitsBody head said) a a b sending
+      (HandsOutInOrder-none a.0) (λ more is. (open', is)) (Prompt-none (AwaitsBody head said) a)
 
   module _ {R : Type 0} {remaining : R → Option (List ℕ)} where
     -- no turn was taken
-    pub no_turn : ((u : W) → trace u u) → (a : Both R W) → AnswersEach remaining tells trace [] a a
-    no_turn none a = (StreamWent-none remaining a.0, WritesPromptly-none (IsOpen (heads usual)) none a)
+    pub no_turn : (a : Both R W) → AnswersEach remaining tells trace [] a a
+    no_turn a = (StreamWent-none remaining a.0, Prompt-none (IsOpen (heads usual)) a)
 
-    module _ (none : (u : W) → trace u u) {s : Unbuffered R} {w w' : Buffered W StdPolicy} (taken handed : List ℕ)
-        (place : Place R) (part : IsPartTaken place taken handed)
-        (once : EndsOnce s.log.reads (stream_at place).log.reads) where
+    module _ {s : Unbuffered R} {w w' : Buffered W StdPolicy} (taken handed : List ℕ) (place : Place R)
+        (part : IsPartTaken place taken handed) (asks : AsksFew s (stream_at place)) where
       -- a run of one turn, in which one message went, or none
       pub RunsToLast-one : (last : List Message) (refuses : Option Refusal) → IfSome refuses (IsToBeRefused s place)
           → (ending : Ending)
           → IsLastTurn remaining tells trace last taken place refuses (s, w) (sending_of ending) (stream_at place, w')
-          → RunEndsBy remaining tells trace s last taken handed refuses place w' ending
+          → RunEndsBy remaining tells trace s last taken handed refuses place ending
           → RunsToLast remaining tells trace s w place ending w'
       RunsToLast-one last refuses wrong ending turn ends = record {
         messages = last;
@@ -35,8 +34,8 @@ module _ {W : Type 0} {tells : W → StreamLog} {trace : W → W → Type 0} whe
         handed = handed;
         part = part;
         refuses = refuses;
-        turns = record { front = []; last = last; all = refl; between = (s, w); each = no_turn none (s, w); turn = turn };
-        once = once;
+        turns = record { front = []; last = last; all = refl; between = (s, w); each = no_turn (s, w); turn = turn };
+        asks = asks;
         wrong = wrong;
         ends = ends;
       }
@@ -51,8 +50,7 @@ module _ {W : Type 0} {tells : W → StreamLog} {trace : W → W → Type 0} whe
       RunsToLast-refused why (Err e) turn wrong met =
           RunsToLast-one [] (Some why) wrong (stop.Unsent e) turn (met, inl (All-nil (MayFollow true)))
 
-    module _ (none : (u : W) → trace u u) (joins : (u v x : W) → trace u v → trace v x → trace u x) {b : InBody R}
-        (open' : early_refusal (is_known b.head) b.said ≡ None) where
+    module _ {b : InBody R} (open' : early_refusal (is_known b.head) b.said ≡ None) where
       -- one did in part, and this is why
       module _ {s : ReaderState R Heads} {t : InBody R} {handed : List ℕ} (begun : Begun remaining s b)
           (enters : Enters usual b) (goes : InsideGoes remaining b handed t) {w u : Buffered W StdPolicy}
@@ -64,58 +62,58 @@ module _ {W : Type 0} {tells : W → StreamLog} {trace : W → W → Type 0} whe
         called_here = still (λ h x. CallsFor remaining tells trace h x (left_of s, w) (Ok tt) (stream_in b, u)) call
 
         awaits_here : (sending : Result (Unit {0}) Error) (v : Buffered W StdPolicy)
-            → WritesPromptly tells trace (IsAwaited b.said.extent) (stream_in b, u) sending (stream_in t, v)
-            → WritesPromptly tells trace (AwaitsBody t.head t.said) (stream_in b, u) sending (stream_in t, v)
+            → Prompt tells trace (IsAwaited b.said.extent) (stream_in b, u) sending (stream_in t, v)
+            → Prompt tells trace (AwaitsBody t.head t.said) (stream_in b, u) sending (stream_in t, v)
         awaits_here sending v on =
-            still (λ h x. WritesPromptly tells trace (AwaitsBody h x) (stream_in b, u) sending (stream_in t, v))
-            (awaits none joins b.head b.said sending open' on)
+            still (λ h x. Prompt tells trace (AwaitsBody h x) (stream_in b, u) sending (stream_in t, v))
+            (awaits b.head b.said sending open' on)
 
         refused_torn : {v w' : Buffered W StdPolicy} (why : Refusal) (answer : Result (Unit {0}) Error)
-            → EndsOnce (stream_in b).log.reads (stream_in t).log.reads
+            → AsksFew (stream_in b) (stream_in t)
             → OnlyInterrupts (faults_of (stream_in b)) (faults_of (stream_in t)) → IsToBeRefused (stream_in b) (Inside t) why
-            → WritesPromptly tells trace (IsAwaited b.said.extent) (stream_in b, u) (Ok tt) (stream_in t, v)
-            → WritesParts tells trace v (refusal why) answer w'
+            → Prompt tells trace (IsAwaited b.said.extent) (stream_in b, u) (Ok tt) (stream_in t, v)
+            → WritesParts tells trace v (refusal why false) answer w'
             → RunsToLast remaining tells trace (left_of s) w (Inside t) (ending_of answer) w'
-        refused_torn {v} {w'} why answer once reads torn on parts =
-            RunsToLast-refused none (b.head ++ goes.went.wire) (handed_of t.body) (Inside t)
+        refused_torn {v} {w'} why answer few reads torn on parts =
+            RunsToLast-refused (b.head ++ goes.went.wire) (handed_of t.body) (Inside t)
             (is_part begun enters goes)
-            (begun_once begun (stream_in t) once) why answer
+            (AsksFew-after (begun_steady begun) few) why answer
             (part_went begun goes, inr ((stream_in b, u), called_here, (v, awaits_here (Ok tt) v on, parts)))
             (IsToBeRefused-still (begun_steady begun) (Inside t) why torn)
             (joined (begun_steady begun) (stream_in t) reads)
 
         -- nothing is refused, and the run ends so
-        stops : {v : Buffered W StdPolicy} (ending : Ending) → EndsOnce (stream_in b).log.reads (stream_in t).log.reads
-            → WritesPromptly tells trace (IsAwaited b.said.extent) (stream_in b, u) (sending_of ending) (stream_in t, v)
-            → RunEndsBy remaining tells trace (left_of s) [] (b.head ++ goes.went.wire) (handed_of t.body) None (Inside t) v
+        stops : {v : Buffered W StdPolicy} (ending : Ending) → AsksFew (stream_in b) (stream_in t)
+            → Prompt tells trace (IsAwaited b.said.extent) (stream_in b, u) (sending_of ending) (stream_in t, v)
+            → RunEndsBy remaining tells trace (left_of s) [] (b.head ++ goes.went.wire) (handed_of t.body) None (Inside t)
             ending
             → RunsToLast remaining tells trace (left_of s) w (Inside t) ending v
-        stops {v} ending once on ends =
-            RunsToLast-one none (b.head ++ goes.went.wire) (handed_of t.body) (Inside t)
+        stops {v} ending few on ends =
+            RunsToLast-one (b.head ++ goes.went.wire) (handed_of t.body) (Inside t)
             (is_part begun enters goes)
-            (begun_once begun (stream_in t) once) [] None tt ending
+            (AsksFew-after (begun_steady begun) few) [] None tt ending
             (part_went begun goes, inr ((stream_in b, u), called_here, awaits_here (sending_of ending) v on)) ends
 
-        pub torn_answered : {v w' : Buffered W StdPolicy} (why : Untaken) (ending : Ending) → TakeFails (stream_in b) why t v
-            → WritesPromptly tells trace (IsAwaited b.said.extent) (stream_in b, u) (sent_till why) (stream_in t, v)
+        pub torn_answered : {v w' : Buffered W StdPolicy} (why : Untaken) (ending : Ending) → TakeFails (stream_in b) why t
+            → Prompt tells trace (IsAwaited b.said.extent) (stream_in b, u) (sent_till why) (stream_in t, v)
             → EndsUntaken tells trace v why ending w'
             → RunsToLast remaining tells trace (left_of s) w (Inside t) ending w'
-        torn_answered (Body (Wrong why)) ending (once, reads, torn) on (answer, is, parts) =
-            rw is (refused_torn BadRequest answer once reads torn on parts)
-        torn_answered (Body (Truncated due)) ending (once, reads, torn) on (answer, is, parts) =
-            rw is (refused_torn BadRequest answer once reads torn on parts)
-        torn_answered (Body (Io e)) ending (once, fails, all, had) on (is, same) =
+        torn_answered (Body (Wrong why)) ending (few, reads, torn) on (answer, is, parts) =
+            rw is (refused_torn BadRequest answer few reads torn on parts)
+        torn_answered (Body (Truncated due)) ending (few, reads, torn) on (answer, is, parts) =
+            rw is (refused_torn BadRequest answer few reads torn on parts)
+        torn_answered (Body (Io e)) ending (few, fails) on (is, same) =
             rw (is, same)
-            (stops (Unread e) once on
-            (FailsInRead-still (begun_steady begun) e (stream_in t) fails, All-nil (MayFollow true), refl, all, had))
+            (stops (Unread e) few on
+            (FailsInRead-still (begun_steady begun) e (stream_in t) fails, All-nil (MayFollow true), refl))
         torn_answered Large ending (reads, large) on (answer, is, parts) =
             rw is
-            (refused_torn LargeBody answer (omega (arith, reads.ends)) reads.faults (inr (inl (refl, large))) on parts)
+            (refused_torn LargeBody answer reads.asks reads.faults (inr (inl (refl, large))) on parts)
         torn_answered (Unsent e) ending reads on (is, same) =
             rw (is, same)
-            (stops (stop.Unsent e) (omega (arith, reads.ends)) on
+            (stops (stop.Unsent e) reads.asks on
             (joined (begun_steady begun) (stream_in t) reads.faults, inl (All-nil (MayFollow true))))
-        torn_answered Many ending (reads, many) on (is, same) = rw (is, same) (stops stop.Many (omega (arith, reads.ends)) on (
+        torn_answered Many ending (reads, many) on (is, same) = rw (is, same) (stops stop.Many reads.asks on (
           joined (begun_steady begun) (stream_in t) reads.faults,
           All-nil (MayFollow true),
           refl,
@@ -127,7 +125,7 @@ module _ {W : Type 0} {tells : W → StreamLog} {trace : W → W → Type 0} whe
           {w u v w' : Buffered W StdPolicy} {sending : Result (Unit {0}) Error} → Begun remaining s b → Enters usual b
           → (whole : TakesWhole remaining b t len) → said ≡ b.said → known ≡ is_known b.head
           → CallsFor remaining tells trace b.head b.said (left_of s, w) (Ok tt) (stream_in b, u)
-          → WritesPromptly tells trace (IsAwaited b.said.extent) (stream_in b, u) (Ok tt) (t, v)
+          → Prompt tells trace (IsAwaited b.said.extent) (stream_in b, u) (Ok tt) (t, v)
           → WritesParts tells trace v (answered known said len) sending w'
           → AnswersWhole remaining tells trace (b.head, whole.1) (left_of s, w) sending (t, w')
       one_answered {s} {t} {len} {known} {said} {w} {u} {v} {w'} {sending} begun enters (wire, payload, went, is, many, small)
@@ -150,6 +148,6 @@ module _ {W : Type 0} {tells : W → StreamLog} {trace : W → W → Type 0} whe
             begun = (stream_in b, u);
             calls = call;
             before = v;
-            reads = awaits none joins b.head b.said (Ok tt) open' on;
+            reads = awaits b.head b.said (Ok tt) open' on;
             answers = subst (λ l. WritesParts tells trace v l sending w') answer parts;
           }

@@ -1,8 +1,8 @@
 -- What was sent before a further head was asked for.
 use Rattle.std.proofs.Common.{◌≡◌, ◌⊎◌, ◌∙◌, ◌<◌, ◌+◌, ℕ, Bool, true, false, MatchBool, List, [], ◌∷◌, ◌++◌, length, Option, None, Some, Result, Ok, Err, inl, inr, ap, refl, sym, subst, arith, length-append}
-use Rattle.requests.proofs.Names.{AskedOver, AskedWhere, AsksNone-settled, BadHead, body_rules, BodyCoding, Breaks, Buffered, empty_reads, EndsEarly, Error, Heads, heads, heads_lawful, InBody, InsideGoes, IsBodyReader, IsOpen, IsSettled, LeadsOpen, left_of, Malformed, NextAnswer, NextPiece, nil_from_length, NoEnd, one_ahead, PiecesWent-stream, PiecesWent-unasked, Reader, ReaderState, rest, SendsUnless, Side, StdPolicy, stream_in, StreamLog, TookWholeBody, Unbuffered, usual, WritesOnlyHeld, WritesPromptly}
+use Rattle.requests.proofs.Names.{AskedOver, AskedWhere, AsksNone-settled, BadHead, body_rules, BodyCoding, Breaks, Buffered, empty_reads, EndsEarly, Error, Heads, heads, heads_lawful, InBody, InsideGoes, IsBodyReader, IsOpen, IsSettled, LeadsOpen, left_of, Malformed, NextAnswer, NextPiece, nil_from_length, NoEnd, one_ahead, PiecesWent-stream, PiecesWent-unasked, Prompt, Reader, ReaderState, rest, SendsUnless, Side, StdPolicy, stream_in, StreamLog, TookWholeBody, Unbuffered, usual}
 use Rattle.codec.specs.declared.NextError.TheVariants as why
-use Rattle.requests.proofs.Sending.{WritesPromptly-asked, WritesPromptly-on, WritesPromptly-read, WritesPromptly-unsent, sent_then}
+use Rattle.requests.proofs.Sending.{Prompt-asked, Prompt-on, Prompt-read, Prompt-unsent}
 use Rattle.requests.proofs.Reading.{begins_on, inside_went, wrong_unasked}
 
 -- under the usual limits heads are the usual ones
@@ -83,22 +83,16 @@ shown_unasked count out m t whole zero some goes_on short asked shown = elim sho
   ]
 ]
 
-module _ {R W : Type 0} {remaining : R → Option (List ℕ)} {tells : W → StreamLog} {trace : W → W → Type 0}
-    (none : (u : W) → trace u u) where
-  -- what was held was sent, where the stream was asked then
-  pub comes : (s : ReaderState R Heads) (w v : Buffered W StdPolicy)
-      → SendsUnless tells trace (IsSettled (heads usual) s) w (Ok tt) v
-      → (answer : NextAnswer BadHead) (t : ReaderState R Heads) → NextPiece remaining (heads usual) s answer t
-      → WritesOnlyHeld tells trace (IsOpen (heads usual)) (left_of s, w) (left_of t, v)
-  comes s w v sends answer t next =
-      let still : IsSettled (heads usual) s → t.reader.log ≡ s.reader.log = λ settled.
-      AsksNone-settled remaining (heads usual) (heads_lawful usual) s settled answer t next in
-      record {
-        writes = WritesPromptly-asked (IsOpen (heads usual)) none (left_of s) (left_of t) w v
-            (PiecesWent-stream remaining (heads usual).most s t next.bytes next.went).order sends
-            (asks_where s t answer next) still;
-        asked = elim (sent_then w v sends) [ inl settled ↦ inl (still settled) | inr all ↦ inr all ];
-      }
+-- what was held was sent, where the stream was asked then
+pub comes : {R W : Type 0} {remaining : R → Option (List ℕ)} {tells : W → StreamLog} {trace : W → W → Type 0}
+    (s : ReaderState R Heads) (w v : Buffered W StdPolicy) → SendsUnless tells trace (IsSettled (heads usual) s) w (Ok tt) v
+    → (answer : NextAnswer BadHead) (t : ReaderState R Heads) → NextPiece remaining (heads usual) s answer t
+    → Prompt tells trace (IsOpen (heads usual)) (left_of s, w) (Ok tt) (left_of t, v)
+comes {remaining = remaining} s w v sends answer t next =
+    Prompt-asked (IsOpen (heads usual)) (left_of s) (left_of t) w v
+    (PiecesWent-stream remaining (heads usual).most s t next.bytes next.went).order sends
+    (asks_where s t answer next)
+    (λ settled. AsksNone-settled remaining (heads usual) (heads_lawful usual) s settled answer t next)
 
 -- where the stream was asked more it was so where that lets it
 asked_more : {R : Type 0} (s t : Unbuffered R) (Open : List ℕ → Type 0) → AskedWhere Open s t
@@ -111,21 +105,20 @@ abbrev pub GoesOn : {R : Type 0} → InBody R → List ℕ → Type 0
 GoesOn b = LeadsOpen (body_rules b.body.coding) b.body.place []
 
 module _ {R W : Type 0} {remaining : R → Option (List ℕ)} {tells : W → StreamLog} {trace : W → W → Type 0}
-    (none : (u : W) → trace u u) (joins : (u v x : W) → trace u v → trace v x → trace u x) (b m : InBody R)
-    (whole : IsBodyReader (body_rules b.body.coding) b.body) (goes : InsideGoes remaining b [] m)
+    (b m : InBody R) (whole : IsBodyReader (body_rules b.body.coding) b.body) (goes : InsideGoes remaining b [] m)
     (same : (stream_in m).log ≡ (stream_in b).log) (w v : Buffered W StdPolicy) where
   -- more of the body behind bytes that were no payload
   behind_none : (t : Unbuffered R) (sending : Result (Unit {0}) Error)
-      → WritesPromptly tells trace (GoesOn m) (stream_in m, w) sending (t, v)
-      → WritesPromptly tells trace (GoesOn b) (stream_in b, w) sending (t, v)
-  behind_none t sending = WritesPromptly-on joins (GoesOn m) (GoesOn b) (stream_in b, w) (stream_in m, w) (t, v) sending
+      → Prompt tells trace (GoesOn m) (stream_in m, w) sending (t, v)
+      → Prompt tells trace (GoesOn b) (stream_in b, w) sending (t, v)
+  behind_none t sending = Prompt-on (GoesOn m) (GoesOn b) (stream_in b, w) (stream_in m, w) (t, v) sending
       (inside_went goes).order (λ more on. begins_on whole goes more on)
-      (WritesPromptly-read (GoesOn b) none w (inside_went goes).order same)
+      (Prompt-read (GoesOn b) w (inside_went goes).order same)
 
   -- what was held couldn't be sent where no more of a body is buffered
   pub unsent_empty : (e : Error) → SendsUnless tells trace (0 < length (stream_in m).left) w (Err e) v
-      → WritesPromptly tells trace (GoesOn b) (stream_in b, w) (Err e) (stream_in m, v)
-  unsent_empty e sends = behind_none (stream_in m) (Err e) (WritesPromptly-unsent (GoesOn m) none (stream_in m) w v e sends
+      → Prompt tells trace (GoesOn b) (stream_in b, w) (Err e) (stream_in m, v)
+  unsent_empty e sends = behind_none (stream_in m) (Err e) (Prompt-unsent (GoesOn m) (stream_in m) w v e sends
       (λ lacks. inl (nil_from_length (stream_in m).left (omega (arith, lacks)))))
 
   -- or it was, and then the stream was asked for more
@@ -135,12 +128,9 @@ module _ {R W : Type 0} {remaining : R → Option (List ℕ)} {tells : W → Str
       → AskedWhere (GoesOn m) (stream_in m) (stream_in t)
       → ((stream_in m).left ≡ [] → ¬ (TookWholeBody (body_rules m.body.coding) m.body)
       → (stream_in m).log.reads.asks < (stream_in t).log.reads.asks)
-      → WritesOnlyHeld tells trace (GoesOn b) (stream_in b, w) (stream_in t, v)
+      → Prompt tells trace (GoesOn b) (stream_in b, w) (Ok tt) (stream_in t, v)
   comes_inside t count out more sends zero some goes_on short asked asks =
-      let still = shown_unasked count out m t goes.whole zero some goes_on short asked in
-      record {
-        writes = behind_none (stream_in t) (Ok tt) (WritesPromptly-asked (GoesOn m) none (stream_in m) (stream_in t) w v
-            (inside_went more).order sends (λ lacks. asked_more (stream_in m) (stream_in t) (GoesOn m) asked
-            (asks (nil_from_length (stream_in m).left (omega (arith, lacks))) goes_on)) still);
-        asked = elim (sent_then w v sends) [ inl shown ↦ inl (still shown ∙ same) | inr all ↦ inr all ];
-      }
+      behind_none (stream_in t) (Ok tt) (Prompt-asked (GoesOn m) (stream_in m) (stream_in t) w v (inside_went more).order sends
+      (λ lacks. asked_more (stream_in m) (stream_in t) (GoesOn m) asked
+      (asks (nil_from_length (stream_in m).left (omega (arith, lacks))) goes_on))
+      (shown_unasked count out m t goes.whole zero some goes_on short asked))

@@ -13,24 +13,23 @@ pub use Rattle.chunked.specs.declared.place.Place.{Place as BodyPlace}
 pub use Rattle.buffer_redux.specs.WriteParts.{WritesParts}
 pub use Rattle.buffer_redux.specs.declared.policy.StdPolicy.{StdPolicy}
 pub use Rattle.codec.specs.Grammar.{IsOpen}
-pub use Rattle.codec.specs.NextPiece.{empty_reads, NextAnswer, NextPiece, NoEnd}
+pub use Rattle.codec.specs.NextPiece.{empty_reads, MetEnd, NextAnswer, NextAnswers, NextPiece, NoEnd, NoFault}
 pub use Rattle.codec.specs.NextPieceLaws.{AsksNone-settled, MetEnd-once}
 pub use Rattle.codec.specs.PieceReader.{IsSettled, left_of, ReaderState, rest}
 pub use Rattle.codec.specs.PiecesWentLaws.{PiecesWent-stream, PiecesWent-unasked}
 pub use Rattle.messages.specs.Heads.{heads, IsHead}
 pub use Rattle.messages.specs.HeadsLaws.{heads_lawful, never_cut}
 pub use Rattle.messages.specs.Limits.{usual}
-pub use Rattle.messages.specs.Messages.{Begun, body_error, body_rules, BodyCoding, coding_of, EachReadGave, Enters, FailsToFinish, FinishesBody, InBody, InsideGoes, InTurn, IsMessage, Message, Reader, TellsWhy, WhyNone}
-pub use Rattle.messages.specs.MessagesLaws.{Begun-gave, Begun-message, Begun-went, InsideGoes-joins, InsideGoes-none, one_ahead, whole_body}
+pub use Rattle.messages.specs.Messages.{Begun, body_error, body_rules, BodyCoding, coding_of, Enters, FailsToFinish, FinishesBody, InBody, InsideGoes, IsMessage, Message, Reader, TellsWhy, WhyNone}
+pub use Rattle.messages.specs.MessagesLaws.{Begun-message, Begun-went, InsideGoes-joins, InsideGoes-none, one_ahead, whole_body}
 pub use Rattle.messages.specs.declared.bad_head.BadHead.{BadHead}
 pub use Rattle.messages.specs.declared.error.BodyError.TheVariants.{Io, Truncated, Wrong}
 pub use Rattle.messages.specs.declared.head.Heads.{Heads}
 pub use Rattle.messages.specs.declared.head.ParsedHead.{ParsedHead}
-pub use Rattle.programs.specs.Streams.{AllSent, EndsOnce}
-pub use Rattle.redux_buffer.specs.Faults.{FaultAfterInterrupts, FaultAfterInterrupts-after, MetInterrupts, MetInterrupts-joins, MetInterrupts-none, OnlyInterrupts, OnlyInterrupts-joins, OnlyInterrupts-none, OnlyInterrupts-one, SendErrorCaused-after}
-pub use Rattle.requests.specs.Answers.{AnswersEach, AnswersPart, AnswersWhole, AwaitsBody, CallsFor, Closes, Continues, EndedBeforeHead, ending_of, ends_of, EndsUntaken, FailsInRead, FailsOn, FailsToRead, faults_of, HadToAsk, IsAnswer, IsClosed, IsLastTurn, IsMany, IsPartTaken, IsTaken, IsToBeRefused, MayFollow, NoMoreAnswered, only_line_ends, ReadsSome, ReadsSteadily, Refuses, RunEndsBy, RunsToLast, sending_of, sent_till, sent_with, stream_at, stream_in, TakeFails, TakesWhole}
+pub use Rattle.redux_buffer.specs.Faults.{FaultAfterInterrupts, FaultAfterInterrupts-after, OnlyInterrupts, OnlyInterrupts-joins, OnlyInterrupts-none, OnlyInterrupts-one}
+pub use Rattle.requests.specs.Answers.{AnswersEach, AnswersWhole, AsksFew, AwaitsBody, CallsFor, Closes, Continues, EndedBeforeHead, ending_of, ends_of, EndsUntaken, FailsInRead, FailsOn, FailsToRead, faults_of, IsClosed, IsLastTurn, IsMany, IsPartTaken, IsToBeRefused, MayFollow, NoMoreAnswered, only_line_ends, ReadsSome, ReadsSteadily, Refuses, RunEndsBy, RunsToLast, sending_of, sent_till, sent_with, stream_at, stream_in, TakeFails, TakesWhole}
 pub use Rattle.requests.specs.Large.{is_large, IsAwaited, max_payload, TurnsLarge}
-pub use Rattle.requests.specs.Sending.{AsksUnsettled, Both, IsHeld, IsStep, IsUnsettled, Prompt, PutsText, PutStops, SendsForRoom, SendsUnless, StepsAlong, WritesOnlyHeld, WritesPromptly}
+pub use Rattle.requests.specs.Sending.{AsksUnsettled, Both, IsHeld, IsStep, IsUnsettled, Prompt, SendsForRoom, SendsUnless, StepsAlong}
 pub use Rattle.requests.specs.Texts.{answered, called, early_refusal, is_called, is_known, refusal, refusal_of, waits}
 pub use Rattle.requests.specs.declared.Ending.{Ending}
 pub use Rattle.requests.specs.declared.Ending.TheVariants.{Over, Unread, Unsent}
@@ -40,6 +39,6 @@ pub use Rattle.requests.specs.declared.taking.Untaken.{Untaken}
 pub use Rattle.requests.specs.declared.writing.Refusal.{Refusal}
 pub use Rattle.requests.specs.declared.writing.Refusal.TheVariants.{BadRequest, LargeBody, Unknown, Unmet}
 pub use Rattle.std.proofs.lemmas.Bool.{cases_lt, false≢true, le-ltb, lt-ltb}
-pub use Rattle.std.proofs.lemmas.List.{append_cancel_left, length-take-le, nil_from_length}
+pub use Rattle.std.proofs.lemmas.List.{length-take-le, nil_from_length}
 pub use Rattle.std.proofs.lemmas.List.Elements.{All-append, All-cons, All-nil}
 pub use Rattle.std.specs.declared.io.Error.{Error}

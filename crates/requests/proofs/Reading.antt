@@ -1,7 +1,6 @@
 -- What reads of a run met.
-use Rattle.std.proofs.Common.{◌≡◌, ◌≢◌, ℕ, ◌+◌, ◌≤◌, true, false, List, [], ◌∷◌, ◌++◌, All, length, Option, None, Some, IfSome, Result, Ok, Err, IfOk, IfErr, ◌⊎◌, sym, ap, subst, inl, inr, ◌∙◌, refl, arith, append_assoc, append-nil, length-append}
-use Rattle.requests.proofs.Names.{All-append, All-nil, AllSent, append_cancel_left, AskedWhere, BadHead, BadRequest, Before, Begun, Begun-gave, Begun-went, body_error, body_rules, BodyCoding, BodyPlace, Breaks, Buffered, Closes, coding_of, EachReadGave, EndedBeforeHead, EndsEarly, EndsOnce, Enters, Error, FailsInRead, FailsOn, FailsToFinish, FailsToRead, FaultAfterInterrupts, FaultAfterInterrupts-after, faults_of, FinishesBody, HadToAsk, handed_of, heads, Heads, InBody, Inside, InsideGoes, Io, IsBodyReader, IsClosed, IsHead, IsMany, IsPartTaken, IsToBeRefused, LeadsOpen, left_of, Malformed, MayFollow, Message, NextAnswer, NextPiece, NoMoreAnswered, NoPayload, OnlyInterrupts, OnlyInterrupts-joins, OnlyInterrupts-none, OnlyInterrupts-one, PiecesWent-stream, Place, Reader, ReaderState, ReadsAlong-stream, ReadsPayload, ReadsSome, ReadsSteadily, Refusal, sent_with, Side, std_read_rules, StdPolicy, stream_in, StreamWent, StreamWent-joins, TakeFails, TellsWhy, TookWholeBody, Unbuffered, unbuffered, Untaken, usual, WhyNone}
-use Rattle.body_reader.specs.Between.{EachGave, GaveNothingOnce}
+use Rattle.std.proofs.Common.{◌≡◌, ◌≢◌, ℕ, ◌+◌, ◌≤◌, true, false, List, [], ◌∷◌, ◌++◌, All, length, Option, None, Some, IfSome, Result, Ok, Err, IfOk, IfErr, sym, ap, subst, inl, inr, ◌∙◌, refl, arith, append_assoc, append-nil, length-append}
+use Rattle.requests.proofs.Names.{All-append, All-nil, AskedWhere, AsksFew, BadHead, Before, Begun, Begun-went, body_error, body_rules, BodyCoding, BodyPlace, Breaks, Closes, coding_of, EndedBeforeHead, ends_of, EndsEarly, Enters, Error, FailsInRead, FailsOn, FailsToFinish, FailsToRead, FaultAfterInterrupts, FaultAfterInterrupts-after, faults_of, FinishesBody, handed_of, Heads, heads, InBody, Inside, InsideGoes, Io, IsBodyReader, IsClosed, IsHead, IsMany, IsOpen, IsPartTaken, IsToBeRefused, LeadsOpen, left_of, Malformed, MayFollow, Message, MetEnd, MetEnd-once, NextAnswer, NextAnswers, NextPiece, NoEnd, NoFault, NoMoreAnswered, NoPayload, OnlyInterrupts, OnlyInterrupts-joins, OnlyInterrupts-none, OnlyInterrupts-one, PiecesWent-stream, Place, Reader, ReaderState, ReadsAlong-stream, ReadsPayload, ReadsSome, ReadsSteadily, Refusal, sent_with, Side, std_read_rules, stream_in, StreamWent, StreamWent-joins, TakeFails, TellsWhy, TookWholeBody, Unbuffered, unbuffered, Untaken, usual, WhyNone}
 use Rattle.body_reader.specs.BetweenLaws.{AsksWithRoom-open, EachGave-same, StopsFor-after}
 use Rattle.body_reader.specs.BodyReader.{taken_count}
 use Rattle.body_reader.specs.BodyReaderLaws.{BodyWent-leads}
@@ -9,6 +8,7 @@ use Rattle.body_reader.specs.Coding.{Agree, heeded}
 use Rattle.body_reader.specs.CodingLaws.{Agree-less, heeded_front, LeadsOpen-behind}
 use Rattle.body_reader.specs.declared.either.Side.TheVariants as side
 use Rattle.body_reader.specs.declared.error.BodyError.TheVariants as unread
+use Rattle.codec.specs.declared.NextError.TheVariants as why
 use Rattle.messages.specs.declared.error.BodyError.{BodyError}
 use Rattle.redux_buffer.specs.Faults.{IsInterrupt}
 use Rattle.requests.specs.declared.taking.Untaken.TheVariants.{Body, Large, Unsent, Many}
@@ -26,12 +26,65 @@ failed_behind a b c e reads faults = record {
   faults = faults ∙ ap (λ l. l ++ e ∷ []) reads.faults;
 }
 
-pub steady_none : {S : Type 0} {s t : Unbuffered S} → EachReadGave s t → ReadsSteadily s t
-steady_none gave = record { faults = none_met gave.0; ends = gave.1 }
+-- each read that was made gave some
+pub steady_gave : {S : Type 0} {s t : Unbuffered S} → faults_of t ≡ faults_of s → ends_of t ≡ ends_of s
+    → t.log.reads.asks + length s.log.reads.given ≤ s.log.reads.asks + length t.log.reads.given → ReadsSteadily s t
+steady_gave faults ends gave = record {
+  faults = none_met faults;
+  ends = ends;
+  asks = record { once = omega (arith, ends); told = omega (arith, gave, ends, ap length faults) };
+}
 
--- where none was made each read gave some
-pub unasked : {S : Type 0} (s t : Unbuffered S) → t.log ≡ s.log → EachReadGave s t
-unasked s t same = (ap (λ l. l.reads.faults) same, ap (λ l. l.reads.zero_reads) same)
+pub steady_same : {S : Type 0} (s t : Unbuffered S) → t.log ≡ s.log → ReadsSteadily s t
+steady_same s t same = steady_gave (ap (λ l. l.reads.faults) same) (ap (λ l. l.reads.zero_reads) same)
+    (omega (arith, ap (λ l. l.reads.asks) same, ap (λ l. length l.reads.given) same))
+
+-- a stream that was asked failed once, or met its end
+asked_few : {S : Type 0} {s t : Unbuffered S} {Such : List ℕ → Type 0} → AskedWhere Such s t
+    → length (faults_of t) + ends_of t ≡ length (faults_of s) + ends_of s + 1 → ends_of t ≤ ends_of s + 1 → AsksFew s t
+asked_few {s = s} {t = t} (inl same) one once = absurd (omega (
+  arith,
+  one,
+  ap (λ l. length l.reads.faults) same,
+  ap (λ l. l.reads.zero_reads) same,
+))
+asked_few {s = s} {t = t} (inr over) one once = record {
+  once = once;
+  told = omega (
+    arith,
+    one,
+    over.asks,
+    ap length over.given,
+    length-append s.log.reads.given (over.came ++ t.log.reads.latest),
+    length-append over.came t.log.reads.latest,
+  );
+}
+
+-- so few asks are those for one head
+pub next_few : {R : Type 0} {remaining : R → Option (List ℕ)} {s t : ReaderState R Heads}
+    (answer : NextAnswer BadHead) → NextPiece remaining (heads usual) s answer t → s.ended ≡ false
+    → AsksFew (left_of s) (left_of t)
+next_few {s = s} {t = t} answer next told = few answer next.answers
+  where
+    asked : AskedWhere (IsOpen (heads usual)) (left_of s) (left_of t)
+    asked = elim next.asked [ inl same ↦ inl same | inr over ↦ inr over.1 ]
+
+    gives : NoFault s t → NoEnd s t → AsksFew (left_of s) (left_of t)
+    gives faults ends = (steady_gave faults ends (next.gave ends faults)).asks
+
+    ends : NoFault s t → MetEnd s t → AsksFew (left_of s) (left_of t)
+    ends faults met =
+        let end = MetEnd-once s t told met in
+        asked_few asked (omega (arith, end, ap length faults)) (omega (arith, end))
+
+    few : (answer : NextAnswer BadHead) → NextAnswers (heads usual) s answer next.bytes t → AsksFew (left_of s) (left_of t)
+    few (Ok (Some payload)) (faults, inl piece) = gives faults piece.2
+    few (Ok (Some payload)) (faults, inr last) = absurd last.0
+    few (Ok None) answers = ends answers.2 answers.4
+    few (Err (why.Wrong e)) (none, faults, on, inl wrong) = gives faults wrong.1
+    few (Err (why.Wrong e)) (none, faults, on, inr cut) = ends faults cut.3
+    few (Err (why.Io e)) answers = asked_few asked
+        (omega (arith, answers.4, ap length answers.2, length-append (faults_of (left_of s)) (e ∷ []))) (omega (arith, answers.4))
 
 pub no_shorter : {a b : List Error} → OnlyInterrupts a b → length a ≤ length b
 no_shorter {a} {b} reads = omega (arith, ap length reads.faults, length-append a reads.interrupts)
@@ -55,8 +108,15 @@ module _ {S : Type 0} {s m : Unbuffered S} (steady : ReadsSteadily s m) where
   pub joined : (t : Unbuffered S) → OnlyInterrupts (faults_of m) (faults_of t) → OnlyInterrupts (faults_of s) (faults_of t)
   joined t met = OnlyInterrupts-joins (faults_of s) (faults_of m) (faults_of t) steady.faults met
 
+  pub AsksFew-after : {t : Unbuffered S} → AsksFew m t → AsksFew s t
+  AsksFew-after few = record { once = omega (arith, few.once, steady.ends); told = omega (arith, few.told, steady.asks.told) }
+
   pub steadily : {t : Unbuffered S} → ReadsSteadily m t → ReadsSteadily s t
-  steadily {t} more = record { faults = joined t more.faults; ends = more.ends ∙ steady.ends }
+  steadily {t} more = record {
+    faults = joined t more.faults;
+    ends = more.ends ∙ steady.ends;
+    asks = AsksFew-after more.asks;
+  }
 
   pub IsToBeRefused-still : (place : Place S) (why : Refusal) → IsToBeRefused m place why → IsToBeRefused s place why
   IsToBeRefused-still (Before requests) why (inl none) = inl none
@@ -98,82 +158,67 @@ module _ {S : Type 0} {s m : Unbuffered S} (steady : ReadsSteadily s m) where
       → IsMany (more + count) s t
   IsMany-still more count t met many = omega (arith, many, no_shorter steady.faults, no_shorter met)
 
--- where no fault was met, none is why
-no_fault : {a b : List Error} (e : Error) → b ≡ a ++ e ∷ [] → b ≡ a → ⊥
-no_fault {a} e fault same = omega (arith, ap length fault, ap length same, length-append a (e ∷ []))
-
 -- why a read in a body failed is why the whole isn't taken
-module _ {S W : Type 0} {s : Unbuffered S} (a b : InBody S) (steady : ReadsSteadily s (stream_in a)) (w : Buffered W StdPolicy)
-  where
-    broken : EachGave a.body.reader b.body.reader → (name : Side (Unit {0}) Malformed)
-        → Breaks (body_rules b.body.coding) name b.body → EndsOnce s.log.reads (stream_in b).log.reads
-        × OnlyInterrupts (faults_of s) (faults_of (stream_in b)) × IsToBeRefused s (Inside b) BadRequest
-    broken gave name breaks = (
-      omega (arith, steady.ends, gave.zero_reads),
-      joined steady (stream_in b) (none_met gave.faults),
-      inl (refl, inl (name, breaks)),
-    )
+module _ {S : Type 0} {s : Unbuffered S} (a b : InBody S) (steady : ReadsSteadily s (stream_in a)) where
+  none_comes : (place : Side ℕ BodyPlace) (why : WhyNone)
+      → ((e : Error) → body_error place why ≡ Io e → error_kind e ≢ Interrupted) → AsksFew s (stream_in b)
+      → NoPayload (body_rules b.body.coding) a.body why b.body → TakeFails s (Body (body_error place why)) b
+  none_comes place (unread.Wrong (side.First none) right) hard few fails = (
+    few,
+    joined steady (stream_in b) (none_met fails.1.faults),
+    inl (refl, inl (side.First none, fails.2)),
+  )
+  none_comes place (unread.Wrong (side.Second name) right) hard few fails = (
+    few,
+    joined steady (stream_in b) (none_met fails.1.faults),
+    inl (refl, inl (side.Second name, fails.2)),
+  )
+  none_comes (side.First due) (unread.Truncated right) hard few fails = (
+    few,
+    joined steady (stream_in b) (none_met fails.1.0),
+    inl (refl, inr (omega (arith, steady.ends, fails.1.1), fails.2)),
+  )
+  none_comes (side.Second q) (unread.Truncated right) hard few fails = (
+    few,
+    joined steady (stream_in b) (none_met fails.1.0),
+    inl (refl, inr (omega (arith, steady.ends, fails.1.1), fails.2)),
+  )
+  none_comes place (unread.Io e) hard few fails = (
+    few,
+    (failed_behind (faults_of s) (faults_of (stream_in a)) (faults_of (stream_in b)) e steady.faults fails.0.0, hard e refl),
+  )
 
-    cut_off : GaveNothingOnce a.body.reader b.body.reader → EndsEarly (body_rules b.body.coding) b.body
-        → EndsOnce s.log.reads (stream_in b).log.reads × OnlyInterrupts (faults_of s) (faults_of (stream_in b))
-        × IsToBeRefused s (Inside b) BadRequest
-    cut_off met early = (
-      omega (arith, steady.ends, met.1),
-      joined steady (stream_in b) (none_met met.0),
-      inl (refl, inr (omega (arith, steady.ends, met.1), early)),
-    )
-
-    none_comes : (place : Side ℕ BodyPlace) (why : WhyNone)
-        → ((e : Error) → body_error place why ≡ Io e → error_kind e ≢ Interrupted)
-        → ((stream_in b).log ≡ (stream_in a).log) ⊎ AllSent w → ((stream_in b).log ≡ (stream_in a).log) ⊎ HadToAsk (Inside b)
-        → NoPayload (body_rules b.body.coding) a.body why b.body → TakeFails s (Body (body_error place why)) b w
-    none_comes place (unread.Wrong (side.First none) right) hard sent asked fails = broken fails.1 (side.First none) fails.2
-    none_comes place (unread.Wrong (side.Second name) right) hard sent asked fails = broken fails.1 (side.Second name) fails.2
-    none_comes (side.First due) (unread.Truncated right) hard sent asked fails = cut_off fails.1 fails.2
-    none_comes (side.Second q) (unread.Truncated right) hard sent asked fails = cut_off fails.1 fails.2
-    none_comes place (unread.Io e) hard sent asked fails = (
-      omega (arith, steady.ends, fails.0.1),
-      (failed_behind (faults_of s) (faults_of (stream_in a)) (faults_of (stream_in b)) e steady.faults fails.0.0, hard e refl),
-      elim sent [ inl same ↦ absurd (no_fault e fails.0.0 (ap (λ l. l.reads.faults) same)) | inr all ↦ all ],
-      elim asked [ inl same ↦ absurd (no_fault e fails.0.0 (ap (λ l. l.reads.faults) same)) | inr had ↦ had ],
-    )
-
-    pub TakeFails-of : (e : Untaken) → ((stream_in b).log ≡ (stream_in a).log) ⊎ HadToAsk (Inside b) → FailsOn a e b w
-        → TakeFails s e b w
-    TakeFails-of (Body e) asked ((why, told, none, hard), sent) = subst (λ x. TakeFails s (Body x) b w) (sym told)
-        (none_comes b.body.place why (λ x is. hard x (told ∙ is)) sent asked none)
-    TakeFails-of (Unsent e) asked gave = steadily steady (steady_none gave)
-    TakeFails-of Large asked odd = elim odd [ ]
-    TakeFails-of Many asked odd = elim odd [ ]
+  pub TakeFails-of : (e : Untaken) → FailsOn a e b → TakeFails s e b
+  TakeFails-of (Body e) (why, told, none, hard, few) = subst (λ x. TakeFails s (Body x) b) (sym told)
+      (none_comes b.body.place why (λ x is. hard x (told ∙ is)) (AsksFew-after steady few) none)
+  TakeFails-of (Unsent e) same = steadily steady (steady_same (stream_in a) (stream_in b) same)
+  TakeFails-of Large odd = elim odd [ ]
+  TakeFails-of Many odd = elim odd [ ]
 
 -- what is said of a read of it is so since the stream was asked last
 module _ {S : Type 0} (a m t : InBody S) (same : (stream_in m).log ≡ (stream_in a).log) where
   pub reads_since : (answer : Result ℕ Untaken) → IfOk answer (λ n. ReadsSome (stream_in m) n t)
       → IfOk answer (λ n. ReadsSome (stream_in a) n t)
   reads_since (Ok n) r = record {
-    steady = steadily (steady_none (unasked (stream_in a) (stream_in m) same)) r.steady;
+    steady = steadily (steady_same (stream_in a) (stream_in m) same) r.steady;
     more = elim r.more [ inl ended ↦ inl ended | inr some ↦ inr (omega (arith, some, ap (λ l. length l.reads.faults) same)) ];
   }
   reads_since (Err e) r = tt
 
-  pub fails_since : {W : Type 0} {v : Buffered W StdPolicy} (answer : Result ℕ Untaken)
-      → ((stream_in t).log ≡ (stream_in a).log) ⊎ AllSent v → IfErr answer (λ e. FailsToRead m e t)
-      → IfErr answer (λ e. FailsOn a e t v)
-  fails_since (Ok n) asked f = tt
-  fails_since (Err (Body e)) asked (why, told, none, hard) = (
-    (
-      why,
-      told,
-      StopsFor-after (taken_count t.body) (λ x. Breaks (body_rules t.body.coding) x t.body)
-          (EndsEarly (body_rules t.body.coding) t.body) a.body.reader m.body.reader t.body.reader
-          (EachGave-same a.body.reader m.body.reader same) why none,
-      hard,
-    ),
-    asked,
+  pub fails_since : (answer : Result ℕ Untaken) → IfErr answer (λ e. FailsToRead m e t) → IfErr answer (λ e. FailsOn a e t)
+  fails_since (Ok n) f = tt
+  fails_since (Err (Body e)) (why, told, none, hard, few) = (
+    why,
+    told,
+    StopsFor-after (taken_count t.body) (λ x. Breaks (body_rules t.body.coding) x t.body)
+        (EndsEarly (body_rules t.body.coding) t.body) a.body.reader m.body.reader t.body.reader
+        (EachGave-same a.body.reader m.body.reader same) why none,
+    hard,
+    AsksFew-after (steady_same (stream_in a) (stream_in m) same) few,
   )
-  fails_since (Err (Unsent e)) asked f = elim f [ ]
-  fails_since (Err Large) asked f = elim f [ ]
-  fails_since (Err Many) asked f = elim f [ ]
+  fails_since (Err (Unsent e)) f = elim f [ ]
+  fails_since (Err Large) f = elim f [ ]
+  fails_since (Err Many) f = elim f [ ]
 
   pub sent_so : (answer : Result ℕ Untaken) → IfErr answer (λ e. FailsToRead m e t) → sent_with answer ≡ Ok tt
   sent_so (Ok n) f = refl
@@ -200,44 +245,16 @@ begins_on {remaining = remaining} {b = b} {m = m} whole goes more on =
     (subst (λ c. IsBodyReader (body_rules c) m.body) goes.went.coding goes.whole) goes.went)
     (subst (λ c. LeadsOpen (body_rules c) m.body.place [] (bytes ++ more)) goes.went.coding on)
 
--- a read of what goes on, behind some of a body
+-- no read of a body is made where what comes next is wrong
 module _ {S : Type 0} (m t : InBody S) (whole : IsBodyReader (body_rules m.body.coding) m.body) where
-  goes_on : (came : List ℕ) → LeadsOpen (body_rules m.body.coding) m.body.place [] (m.body.reader.block.bytes ++ came)
-      → LeadsOpen (body_rules m.body.coding) (body_rules m.body.coding).first (handed_of m.body ++ [])
-      (m.body.taken ++ (m.body.reader.block.bytes ++ came))
-  goes_on came = LeadsOpen-behind (body_rules m.body.coding) (body_rules m.body.coding).first m.body.place m.body.taken
-      (handed_of m.body) [] m.body.reader.block.bytes came whole.leads
-
-  pub had_to_ask : {remaining : S → Option (List ℕ)} {handed : List ℕ} → InsideGoes remaining m handed t
-      → AskedWhere (LeadsOpen (body_rules m.body.coding) m.body.place []) (stream_in m) (stream_in t)
-      → ((stream_in t).log ≡ (stream_in m).log) ⊎ HadToAsk (Inside t)
-  had_to_ask more (inl same) = inl same
-  had_to_ask more (inr over) =
-      let order = more.went.along.in_order in
-      let latest = t.body.reader.log.reads.latest in
-      let bytes = m.body.reader.block.bytes in
-      let there = m.body.taken ++ (bytes ++ over.came) in
-      let got : order.got ≡ over.came ++ latest =
-      append_cancel_left m.body.reader.log.reads.given order.got (over.came ++ latest) (sym order.given ∙ over.given) in
-      inr (
-        there,
-        ap (λ l. l ++ t.body.reader.block.bytes) more.went.taken
-            ∙ append_assoc m.body.taken more.went.wire t.body.reader.block.bytes
-            ∙ ap (λ l. m.body.taken ++ l)
-            (order.equal ∙ ap (λ l. bytes ++ l) got ∙ sym (append_assoc bytes over.came latest))
-            ∙ sym (append_assoc m.body.taken (bytes ++ over.came) latest),
-        subst (λ c. (came : List ℕ) × LeadsOpen (body_rules c) (body_rules c).first came there) (sym more.went.coding)
-            (handed_of m.body ++ [], goes_on over.came over.such),
-      )
-
-  -- none is made where what comes next is wrong
   pub wrong_unasked : (why : Side (Unit {0}) Malformed) → Breaks (body_rules m.body.coding) why m.body
       → AskedWhere (LeadsOpen (body_rules m.body.coding) m.body.place []) (stream_in m) (stream_in t)
       → (stream_in t).log ≡ (stream_in m).log
   wrong_unasked why breaks (inl same) = same
   wrong_unasked why breaks (inr over) =
       let bytes = m.body.reader.block.bytes in
-      let o = goes_on over.came over.such in
+      let o = LeadsOpen-behind (body_rules m.body.coding) (body_rules m.body.coding).first m.body.place m.body.taken
+      (handed_of m.body) [] bytes over.came whole.leads over.such in
       let behind = o.settles_nothing.behind in
       let front = heeded_front (body_rules m.body.coding) o.shown in
       let agree = Agree-less (heeded (body_rules m.body.coding) o.shown) front.0 (o.shown ++ behind)
@@ -269,6 +286,17 @@ module _ {S : Type 0} (remaining : S → Option (List ℕ)) (s t : InBody S) (ou
   read_asked (Err e) (why, told, reads) = AsksWithRoom-open remaining std_read_rules (body_rules s.body.coding) (length out)
       s.body.reader s.body.place t.body.reader reads.asked
 
+  -- and it asked few times
+  none_few : (why : WhyNone) → NoPayload (body_rules s.body.coding) s.body why t.body
+      → AskedWhere (LeadsOpen (body_rules s.body.coding) s.body.place []) (stream_in s) (stream_in t)
+      → AsksFew (stream_in s) (stream_in t)
+  none_few (unread.Wrong name right) fails asked = (steady_gave fails.1.faults fails.1.zero_reads fails.1.asks).asks
+  none_few (unread.Truncated right) fails asked =
+      asked_few asked (omega (arith, fails.1.1, ap length fails.1.0)) (omega (arith, fails.1.1))
+  none_few (unread.Io e) fails asked = asked_few asked
+      (omega (arith, fails.0.1, ap length fails.0.0, length-append (faults_of (stream_in s)) (e ∷ [])))
+      (omega (arith, fails.0.1))
+
   pub read_fails : (e : BodyError) → Reads (Err e) → ((fault : Error) → e ≡ Io fault → error_kind fault ≢ Interrupted)
       → FailsToRead s (Body e) t
   read_fails e (why, told, reads) hard = (
@@ -276,6 +304,7 @@ module _ {S : Type 0} (remaining : S → Option (List ℕ)) (s t : InBody S) (ou
     told,
     subst (λ c. NoPayload (body_rules c) s.body why t.body) (sym reads.went.coding) reads.answers,
     hard,
+    none_few why reads.answers (read_asked (Err e) (why, told, reads)),
   )
 
   -- it was interrupted
@@ -288,6 +317,7 @@ module _ {S : Type 0} (remaining : S → Option (List ℕ)) (s t : InBody S) (ou
         steady = record {
           faults = OnlyInterrupts-one (faults_of (stream_in s)) (faults_of (stream_in t)) e interrupted fault.0.0;
           ends = fault.0.1;
+          asks = none_few why reads.answers (read_asked (Err told) (why, is, reads));
         };
         more = inr (omega (arith, ap length fault.0.0, length-append (faults_of (stream_in s)) (e ∷ [])));
       }
@@ -303,10 +333,10 @@ nothing_went {R} {remaining} {s} {t} next none =
 module _ {R : Type 0} {remaining : R → Option (List ℕ)} {s : ReaderState R Heads} {b : InBody R}
     (begun : Begun remaining s b) where
   pub begun_steady : ReadsSteadily (left_of s) (stream_in b)
-  begun_steady = steady_none (Begun-gave remaining s b begun)
-
-  pub begun_once : (t : Unbuffered R) → EndsOnce (stream_in b).log.reads t.log.reads → EndsOnce (left_of s).log.reads t.log.reads
-  begun_once t once = omega (arith, once, begun_steady.ends)
+  begun_steady =
+      let next = begun.next in
+      let ends : NoEnd s begun.behind = elim next.answers.1 [ inl is ↦ is.2 | inr last ↦ absurd last.0 ] in
+      subst (ReadsSteadily (left_of s)) (sym begun.stream) (steady_gave next.answers.0 ends (next.gave ends next.answers.0))
 
   -- it is one under the usual limits
   pub begun_enters : s.decoder.0 ≡ usual → Enters usual b

@@ -11,21 +11,20 @@ use Rattle.buffer_redux.specs.Unbuffer.{StreamWent, Unbuffered, unbuffered}
 use Rattle.buffer_redux.specs.WriteParts.{WritesParts}
 use Rattle.buffer_redux.specs.declared.policy.StdPolicy.{StdPolicy}
 use Rattle.body_reader.specs.BodyReader.{Breaks, EndsEarly, IsBodyReader, NoPayload, TookWholeBody, handed_of}
-use Rattle.body_reader.specs.Coding.{IsBody, LeadsOpen}
+use Rattle.body_reader.specs.Coding.{IsBody}
 use Rattle.body_reader.specs.declared.either.Side.{Side}
 use Rattle.chunked.specs.declared.error.Malformed.{Malformed}
 use Rattle.codec.specs.Grammar.{IsOpen}
 use Rattle.codec.specs.PieceReader.{ReaderState, left_of, rest}
-use Rattle.messages.specs.declared.error.BodyError.{BodyError}
 use Rattle.messages.specs.declared.error.BodyError.TheVariants.{Io}
 use Rattle.messages.specs.declared.bad_head.BadHead.{BadHead}
 use Rattle.messages.specs.declared.head.ParsedHead.{ParsedHead}
 use Rattle.messages.specs.Heads.{IsHead, heads}
 use Rattle.messages.specs.declared.head.Heads.{Heads}
 use Rattle.messages.specs.Limits.{usual}
-use Rattle.messages.specs.Messages.{EachReadGave, InBody, IsMessage, Message, WhyNone, body_error, body_rules, coding_of}
+use Rattle.messages.specs.Messages.{InBody, IsMessage, Message, WhyNone, body_error, body_rules, coding_of}
 use Rattle.messages.specs.Versions.{is_end}
-use Rattle.programs.specs.Streams.{AllSent, EndsOnce}
+use Rattle.programs.specs.Streams.{EndsOnce}
 use Rattle.requests.specs.declared.writing.Refusal.{Refusal}
 use Rattle.requests.specs.declared.writing.Refusal.TheVariants.{BadRequest, LargeBody}
 use Rattle.requests.specs.declared.Place.{Place}
@@ -36,13 +35,8 @@ use Rattle.requests.specs.declared.Ending.TheVariants.{Over, Unread}
 use Rattle.requests.specs.declared.taking.Untaken.{Untaken}
 use Rattle.requests.specs.declared.taking.Untaken.TheVariants.{Body, Large, Unsent, Many}
 use Rattle.requests.specs.Large.{IsAwaited, TurnsLarge, is_large, usual_rules}
-use Rattle.requests.specs.Sending.{Both, SendsForRoom, SendsHeld, WritesPromptly}
+use Rattle.requests.specs.Sending.{Both, SendsForRoom, SendsHeld, Prompt}
 use Rattle.requests.specs.Texts.{answered, called, early_refusal, is_called, is_known, refusal, refusal_of}
-
--- the answer to a message: 200, and how much payload all of its body has; or 501, or 417
-abbrev pub IsAnswer : Message → List ℕ → Type 0
-IsAnswer m text = (said : ParsedHead) × IsHead usual m.0 said
-    × (text ≡ called (is_called (is_known m.0) said) ++ answered (is_known m.0) said (length m.1))
 
 -- a message is these bytes, and its body isn't too large
 abbrev pub IsTaken : Message → List ℕ → Type 0
@@ -66,10 +60,17 @@ ends_of s = s.log.reads.zero_reads
 abbrev pub faults_of : {S : Type 0} → Unbuffered S → List Error
 faults_of s = s.log.reads.faults
 
+-- the end was met once at most, and each ask gave bytes, or failed, or met that
+pub record AsksFew {S : Type 0} (s t : Unbuffered S) : Type 0 where
+  pub once : EndsOnce s.log.reads t.log.reads
+  pub told : t.log.reads.asks + (length s.log.reads.given + (length (faults_of s) + ends_of s))
+      ≤ s.log.reads.asks + (length t.log.reads.given + (length (faults_of t) + ends_of t))
+
 -- reads were at most interrupted, and each other gave some bytes
 pub record ReadsSteadily {S : Type 0} (s t : Unbuffered S) : Type 0 where
   pub faults : OnlyInterrupts (faults_of s) (faults_of t)
   pub ends : ends_of t ≡ ends_of s
+  pub asks : AsksFew s t
 
 -- what the stream has left
 abbrev pub stream_at : {S : Type 0} → Place S → Unbuffered S
@@ -132,14 +133,6 @@ IsPartTaken (Inside body) taken handed = (taken ≡ body.head ++ body.body.taken
 abbrev pub FailsInRead : {S : Type 0} → Unbuffered S → Error → Unbuffered S → Type 0
 FailsInRead s e t = FaultAfterInterrupts (faults_of s) (faults_of t) e × (error_kind e ≢ Interrupted)
 
--- a stream that failed had to be asked: what is left begins a head; or what was there of a body before the last read begins it,
--- and it goes on
-abbrev pub HadToAsk : {S : Type 0} → Place S → Type 0
-HadToAsk (Before requests) = IsOpen (heads usual) (rest requests)
-HadToAsk (Inside body) = (there : List ℕ)
-    × (body.body.taken ++ body.body.reader.block.bytes ≡ there ++ body.body.reader.log.reads.latest)
-    × ((came : List ℕ) × LeadsOpen (body_rules body.body.coding) (body_rules body.body.coding).first came there)
-
 -- with the interruptions that were met, these are more than are counted
 abbrev pub IsMany : {S : Type 0} → ℕ → Unbuffered S → Unbuffered S → Type 0
 IsMany count s t = 2 ^ 64 ≤ count + (length (faults_of t) - length (faults_of s)) + 1
@@ -153,29 +146,22 @@ pub record ReadsSome {S : Type 0} (s : Unbuffered S) (n : ℕ) (b : InBody S) : 
 abbrev pub FailsToRead : {S : Type 0} → InBody S → Untaken → InBody S → Type 0
 FailsToRead s (Body e) b = (why : WhyNone) × (e ≡ body_error b.body.place why)
     × NoPayload (body_rules b.body.coding) s.body why b.body × ((fault : Error) → e ≡ Io fault → error_kind fault ≢ Interrupted)
+    × AsksFew (stream_in s) (stream_in b)
 FailsToRead s e b = ⊥
 
--- so, and where that was asked for all had been sent; or that wasn't sent, and nothing asked for
-abbrev pub FailsOn : {S W : Type 0} → InBody S → Untaken → InBody S → Buffered W StdPolicy → Type 0
-FailsOn s (Body e) b w' = FailsToRead s (Body e) b × (((stream_in b).log ≡ (stream_in s).log) ⊎ AllSent w')
-FailsOn s (Unsent e) b w' = EachReadGave (stream_in s) (stream_in b)
-FailsOn s e b w' = ⊥
+-- so; or what was held wasn't sent, and nothing asked for
+abbrev pub FailsOn : {S : Type 0} → InBody S → Untaken → InBody S → Type 0
+FailsOn s (Unsent e) b = (stream_in b).log ≡ (stream_in s).log
+FailsOn s e b = FailsToRead s e b
 
 -- why a body isn't taken whole: so, or it is wrong, or too large, or more than is counted
-abbrev pub TakeFails : {S W : Type 0} → Unbuffered S → Untaken → InBody S → Buffered W StdPolicy → Type 0
-TakeFails s (Body (Io e)) b w' =
-    EndsOnce s.log.reads (stream_in b).log.reads × FailsInRead s e (stream_in b) × AllSent w' × HadToAsk (Inside b)
-TakeFails s (Body wrong) b w' =
-    EndsOnce s.log.reads (stream_in b).log.reads × OnlyInterrupts (faults_of s) (faults_of (stream_in b))
-    × IsToBeRefused s (Inside b) BadRequest
-TakeFails s Large b w' = ReadsSteadily s (stream_in b) × TurnsLarge b
-TakeFails s (Unsent e) b w' = ReadsSteadily s (stream_in b)
-TakeFails s Many b w' = ReadsSteadily s (stream_in b) × IsMany (length (handed_of b.body)) s (stream_in b)
-
--- why the end of a body wasn't taken, for which nothing was asked
-abbrev pub unfinished : BodyError → Untaken
-unfinished (Io e) = Many
-unfinished e = Body e
+abbrev pub TakeFails : {S : Type 0} → Unbuffered S → Untaken → InBody S → Type 0
+TakeFails s (Body (Io e)) b = AsksFew s (stream_in b) × FailsInRead s e (stream_in b)
+TakeFails s (Body wrong) b =
+    AsksFew s (stream_in b) × OnlyInterrupts (faults_of s) (faults_of (stream_in b)) × IsToBeRefused s (Inside b) BadRequest
+TakeFails s Large b = ReadsSteadily s (stream_in b) × TurnsLarge b
+TakeFails s (Unsent e) b = ReadsSteadily s (stream_in b)
+TakeFails s Many b = ReadsSteadily s (stream_in b) × IsMany (length (handed_of b.body)) s (stream_in b)
 
 -- how sending went, where reading ended so
 abbrev pub sent_till : Untaken → Result (Unit {0}) Error
@@ -202,9 +188,9 @@ abbrev pub EndsUntaken : {W : Type 0} → (W → StreamLog) → (W → W → Typ
     → Buffered W StdPolicy → Type 0
 EndsUntaken tells trace w (Body (Io e)) ending w' = (ending ≡ Unread e) × (w' ≡ w)
 EndsUntaken tells trace w (Body wrong) ending w' = (answer : Result (Unit {0}) Error) × (ending ≡ ending_of answer)
-    × WritesParts tells trace w (refusal BadRequest) answer w'
+    × WritesParts tells trace w (refusal BadRequest false) answer w'
 EndsUntaken tells trace w Large ending w' = (answer : Result (Unit {0}) Error) × (ending ≡ ending_of answer)
-    × WritesParts tells trace w (refusal LargeBody) answer w'
+    × WritesParts tells trace w (refusal LargeBody false) answer w'
 EndsUntaken tells trace w (Unsent e) ending w' = (ending ≡ stop.Unsent e) × (w' ≡ w)
 EndsUntaken tells trace w Many ending w' = (ending ≡ stop.Many) × (w' ≡ w)
 
@@ -228,7 +214,7 @@ module _ {R W : Type 0} (remaining : R → Option (List ℕ)) (tells : W → Str
       : Type 0 where
     pub went : StreamWent remaining a.0 head b.0
     pub before : Buffered W StdPolicy
-    pub comes : WritesPromptly tells trace (IsOpen (heads usual)) a (Ok tt) (b.0, before)
+    pub comes : Prompt tells trace (IsOpen (heads usual)) a (Ok tt) (b.0, before)
     pub call : SendsForRoom tells trace before (called (is_called (is_known head) said)) putting b.1
 
   -- this message went, whose head settles no refusal of it; its body was called for, and then asked for till it was whole; and
@@ -243,20 +229,19 @@ module _ {R W : Type 0} (remaining : R → Option (List ℕ)) (tells : W → Str
     pub begun : Both R W
     pub calls : CallsFor m.0 said a (Ok tt) begun
     pub before : Buffered W StdPolicy
-    pub reads : WritesPromptly tells trace (AwaitsBody m.0 said) begun (Ok tt) (b.0, before)
+    pub reads : Prompt tells trace (AwaitsBody m.0 said) begun (Ok tt) (b.0, before)
     pub answers : WritesParts tells trace before (answered (is_known m.0) said (length m.1)) sending b.1
 
-  -- each of these went and was answered so, before a byte of the next was taken. So what went is the messages, and what was
-  -- taken in is the answer to each, in their order (`AnswersEach-whole`)
+  -- each of these went and was answered so, before a byte of the next was taken
   abbrev pub AnswersEach : List Message → Both R W → Both R W → Type 0
-  AnswersEach [] a b = StreamWent remaining a.0 [] b.0 × WritesPromptly tells trace (IsOpen (heads usual)) a (Ok tt) b
+  AnswersEach [] a b = StreamWent remaining a.0 [] b.0 × Prompt tells trace (IsOpen (heads usual)) a (Ok tt) b
   AnswersEach (m ∷ later) a b = (c : Both R W) × AnswersWhole m a (Ok tt) c × AnswersEach later c b
 
   -- so much was asked for, or sending what is held failed; or then this was refused, or that failed
   abbrev pub Refuses : (List ℕ → Type 0) → Option Refusal → Both R W → Result (Unit {0}) Error → Both R W → Type 0
-  Refuses Open None a sending b = WritesPromptly tells trace Open a sending b
+  Refuses Open None a sending b = Prompt tells trace Open a sending b
   Refuses Open (Some why) a sending b = (before : Buffered W StdPolicy)
-      × WritesPromptly tells trace Open a (Ok tt) (b.0, before) × WritesParts tells trace before (refusal why) sending b.1
+      × Prompt tells trace Open a (Ok tt) (b.0, before) × WritesParts tells trace before (refusal why false) sending b.1
 
   -- no message went whole, where the reader stands there: a head is asked for, and it is refused at once; or it came, and its
   -- body is called for, and then asked for, and that is refused at once; or the call failed
@@ -290,18 +275,16 @@ module _ {R W : Type 0} (remaining : R → Option (List ℕ)) (tells : W → Str
     pub keep : All (MayFollow true) messages
     pub reads : ReadsSteadily s t
 
-  -- why a run ends: a read failed that had to be made, and all had been sent; or reads were at most interrupted, and it is over,
-  -- or these are more than are counted, or sending failed; and nothing was answered behind a message behind which none may follow
-  abbrev pub RunEndsBy : Unbuffered R → List Message → List ℕ → List ℕ → Option Refusal → Place R → Buffered W StdPolicy
-      → Ending → Type 0
-  RunEndsBy s messages taken handed refuses place w' Over =
+  -- why a run ends: a read failed; or reads were at most interrupted, and it is over, or these are more than are counted, or
+  -- sending failed; and nothing was answered behind a message behind which none may follow
+  abbrev pub RunEndsBy : Unbuffered R → List Message → List ℕ → List ℕ → Option Refusal → Place R → Ending → Type 0
+  RunEndsBy s messages taken handed refuses place Over =
       OnlyInterrupts (faults_of s) (faults_of (stream_at place)) × NoMoreAnswered messages taken refuses s place
-  RunEndsBy s messages taken handed refuses place w' stop.Many = OnlyInterrupts (faults_of s) (faults_of (stream_at place))
+  RunEndsBy s messages taken handed refuses place stop.Many = OnlyInterrupts (faults_of s) (faults_of (stream_at place))
       × All (MayFollow true) messages × (refuses ≡ None) × IsMany (length messages + length handed) s (stream_at place)
-  RunEndsBy s messages taken handed refuses place w' (Unread e) = FailsInRead s e (stream_at place)
-      × All (MayFollow true) messages × (refuses ≡ None) × AllSent w' × HadToAsk place
-  RunEndsBy s messages taken handed refuses place w' (stop.Unsent e) =
-      OnlyInterrupts (faults_of s) (faults_of (stream_at place))
+  RunEndsBy s messages taken handed refuses place (Unread e) =
+      FailsInRead s e (stream_at place) × All (MayFollow true) messages × (refuses ≡ None)
+  RunEndsBy s messages taken handed refuses place (stop.Unsent e) = OnlyInterrupts (faults_of s) (faults_of (stream_at place))
       × (All (MayFollow true) messages ⊎ IsClosed messages taken refuses s place)
 
   -- a run, but for what is sent last: behind the answers were written the call for a body that the client waits for, and a
@@ -314,11 +297,11 @@ module _ {R W : Type 0} (remaining : R → Option (List ℕ)) (tells : W → Str
     pub part : IsPartTaken place taken handed
     pub refuses : Option Refusal
     pub turns : AnswersInTurns messages (s, w) taken place refuses (sending_of ending) (stream_at place, w')
-    pub once : EndsOnce s.log.reads (stream_at place).log.reads
+    pub asks : AsksFew s (stream_at place)
     pub wrong : IfSome refuses (IsToBeRefused s place)
-    pub ends : RunEndsBy s messages taken handed refuses place w' ending
+    pub ends : RunEndsBy s messages taken handed refuses place ending
 
-  -- a run: where sending failed, it returns why, and nothing was taken that comes behind what failed; or all was sent
+  -- a run: where sending failed, it returns why, and behind the call that failed nothing was taken or asked for; or all was sent
   pub record ServesRequests (s : Unbuffered R) (w : Buffered W StdPolicy) (place : Place R) (answer : Result (Unit {0}) Error)
       (w' : Buffered W StdPolicy) : Type 0 where
     pub ending : Ending

@@ -1,11 +1,8 @@
 -- What is written, and when it is sent.
-use Rattle.std.specs.Prelude.{◌≡◌, ℕ, ◌<◌, ◌≤◌, ◌⊎◌, List, [], ◌∷◌, ◌++◌, length, Result, Ok, MatchResult, OnOk, IfErr}
+use Rattle.std.specs.Prelude.{◌≡◌, ℕ, ◌<◌, ◌⊎◌, List, [], ◌∷◌, ◌++◌, length, Result, Ok, MatchResult}
 use Rattle.std.specs.declared.io.Error.{Error}
-use Rattle.redux_buffer.specs.Faults.{MetInterrupts, SendErrorCaused}
-use Rattle.redux_buffer.specs.GrowError.{GrowthFailed}
-use Rattle.buffer_redux.specs.BufWriter.{FrontAlong, WasFlushed}
+use Rattle.buffer_redux.specs.BufWriter.{WasFlushed}
 use Rattle.buffer_redux.specs.Buffered.{Buffered}
-use Rattle.buffer_redux.specs.Policy.{std_write_rules}
 use Rattle.buffer_redux.specs.StreamLog.{StreamLog}
 use Rattle.buffer_redux.specs.Unbuffer.{HandsOutInOrder, Unbuffered}
 use Rattle.buffer_redux.specs.WriteParts.{WritesParts}
@@ -21,19 +18,6 @@ abbrev pub SendsForRoom : {W : Type 0} → (W → StreamLog) → (W → W → Ty
     → Result (Unit {0}) Error → Buffered W StdPolicy → Type 0
 SendsForRoom tells trace w text putting w' =
     ((text ≡ []) × (putting ≡ Ok tt) × (w' ≡ w)) ⊎ WritesParts tells trace w text putting w'
-
--- why text wasn't taken in, or sent: the writer failed, and before that met nothing but interruptions; or room for it was refused
-abbrev pub PutStops : {W : Type 0} → List ℕ → Buffered W StdPolicy → Error → Buffered W StdPolicy → Type 0
-PutStops text w e w' = SendErrorCaused w.log.writes w'.log.writes e
-    ⊎ ((more : ℕ) × (more ≤ length text) × GrowthFailed more w'.block e)
-
--- at Ok this text was taken in, and the writer met nothing but interruptions; at an Err a beginning of it was
-pub record PutsText {W : Type 0} (tells : W → StreamLog) (trace : W → W → Type 0) (w : Buffered W StdPolicy) (text : List ℕ)
-    (putting : Result (Unit {0}) Error) (w' : Buffered W StdPolicy) : Type 0 where
-  pub front : FrontAlong tells trace std_write_rules w text putting w'
-  pub held : OnOk putting (IsHeld w → IsHeld w')
-  pub met : OnOk putting (MetInterrupts w.log.writes w'.log.writes)
-  pub why : IfErr putting (λ e. PutStops text w e w')
 
 -- what is held was sent, and flushed; or nothing was held, and nothing was done
 abbrev pub SendsHeld : {W : Type 0} → (W → StreamLog) → (W → W → Type 0) → Buffered W StdPolicy → Result (Unit {0}) Error
@@ -82,18 +66,8 @@ module _ {R W : Type 0} (tells : W → StreamLog) (trace : W → W → Type 0) (
   StepsAlong a [] answer b = (a ≡ b) × (answer ≡ Ok tt)
   StepsAlong a (m ∷ earlier) answer b = StepsAlong a earlier (Ok tt) m × IsStep a.0 m answer b
 
-  -- so the stream was asked only where what had come settled nothing, and nothing was held back; and each flush sends something,
-  -- and stands directly before an ask, with nothing handed out between, unless it fails
+  -- so nothing was written; the stream was asked only where what had come settled nothing, and nothing was held back; and each
+  -- flush sends something, and stands directly before an ask, with nothing handed out between, unless it fails
   pub record Prompt (a : Both R W) (answer : Result (Unit {0}) Error) (b : Both R W) : Type 0 where
     pub between : List (Both R W)
     pub steps : StepsAlong a between answer b
-
-  -- and nothing was written: what had been held may have been sent
-  pub record WritesPromptly (a : Both R W) (sending : Result (Unit {0}) Error) (b : Both R W) : Type 0 where
-    pub puts : PutsText tells trace a.1 [] sending b.1
-    pub prompt : Prompt a sending b
-
-  -- and where the stream was asked that had been sent
-  pub record WritesOnlyHeld (a b : Both R W) : Type 0 where
-    pub writes : WritesPromptly a (Ok tt) b
-    pub asked : (b.0.log ≡ a.0.log) ⊎ AllSent b.1

@@ -12,21 +12,28 @@ use Rattle.requests.specs.declared.writing.Refusal.{Refusal}
 use Rattle.requests.specs.declared.writing.Refusal.TheVariants.{BadRequest, LargeBody, LongTarget, LargeHead, Unmet, Unknown, OtherVersion}
 use Rattle.requests.specs.Large.{is_large}
 
--- a call for a body, and a refusal, each where there is one
+-- a call for a body, where there is one
 abbrev pub called : Bool → List ℕ
 called true = codes "HTTP/1.1 100 Continue\r\n\r\n"
 called false = []
 
-abbrev pub refusal : Refusal → List ℕ
-refusal BadRequest = codes "HTTP/1.1 400 Bad Request\r\nContent-Length: 0\r\nConnection: close\r\n\r\n"
-refusal LongTarget = codes "HTTP/1.1 414 URI Too Long\r\nContent-Length: 0\r\nConnection: close\r\n\r\n"
-refusal LargeHead =
-    codes "HTTP/1.1 431 Request Header Fields Too Large\r\nContent-Length: 0\r\nConnection: close\r\n\r\n"
-refusal LargeBody = codes "HTTP/1.1 413 Content Too Large\r\nContent-Length: 0\r\nConnection: close\r\n\r\n"
-refusal Unmet = codes "HTTP/1.1 417 Expectation Failed\r\nContent-Length: 0\r\nConnection: close\r\n\r\n"
-refusal Unknown = codes "HTTP/1.1 501 Not Implemented\r\nContent-Length: 0\r\nConnection: close\r\n\r\n"
-refusal OtherVersion =
-    codes "HTTP/1.1 505 HTTP Version Not Supported\r\nContent-Length: 0\r\nConnection: close\r\n\r\n"
+abbrev pub status : Refusal → List ℕ
+status BadRequest = codes "400 Bad Request"
+status LargeBody = codes "413 Content Too Large"
+status LongTarget = codes "414 URI Too Long"
+status Unmet = codes "417 Expectation Failed"
+status LargeHead = codes "431 Request Header Fields Too Large"
+status Unknown = codes "501 Not Implemented"
+status OtherVersion = codes "505 HTTP Version Not Supported"
+
+abbrev pub connection : Bool → List ℕ
+connection true = codes "keep-alive"
+connection false = codes "close"
+
+-- a refusal by such a status, where another request may follow, or none
+abbrev pub refusal : Refusal → Bool → List ℕ
+refusal why keeps = codes "HTTP/1.1 " ++ (status why ++ (codes "\r\nContent-Length: 0\r\nConnection: "
+    ++ (connection keeps ++ codes "\r\n\r\n")))
 
 -- by which status what is no head is refused (RFC 9110, section 15; RFC 6585, section 5; RFC 9112, sections 3 and 6.1)
 abbrev pub refusal_of : BadHead → Refusal
@@ -71,16 +78,6 @@ success false = codes "HTTP/1.1 200 OK\r\nContent-Length: 21\r\nConnection: clos
 abbrev pub granted : ParsedHead → ℕ → List ℕ
 granted said len = success said.keeps ++ (if said.bare then [] else length_line len)
 
--- 501, to a method that isn't known
-abbrev pub declined : Bool → List ℕ
-declined true = codes "HTTP/1.1 501 Not Implemented\r\nContent-Length: 0\r\nConnection: keep-alive\r\n\r\n"
-declined false = codes "HTTP/1.1 501 Not Implemented\r\nContent-Length: 0\r\nConnection: close\r\n\r\n"
-
--- 417, to one that expects what nobody here does (RFC 9110, section 10.1.1)
-abbrev pub disappointed : Bool → List ℕ
-disappointed true = codes "HTTP/1.1 417 Expectation Failed\r\nContent-Length: 0\r\nConnection: keep-alive\r\n\r\n"
-disappointed false = codes "HTTP/1.1 417 Expectation Failed\r\nContent-Length: 0\r\nConnection: close\r\n\r\n"
-
 -- a line begins with a method that is known (RFC 9110, section 9.3, and RFC 5789)
 abbrev pub begins_often : List ℕ → Bool
 begins_often line = starts_with nat_eq line (codes "GET ") || (starts_with nat_eq line (codes "HEAD ")
@@ -89,12 +86,13 @@ begins_often line = starts_with nat_eq line (codes "GET ") || (starts_with nat_e
 abbrev pub begins_known : List ℕ → Bool
 begins_known line = begins_often line
     || (starts_with nat_eq line (codes "DELETE ") || (starts_with nat_eq line (codes "OPTIONS ")
-    || (starts_with nat_eq line (codes "TRACE ") || starts_with nat_eq line (codes "PATCH "))))
+    || starts_with nat_eq line (codes "PATCH ")))
 
 -- a head's first line, behind empty ones
 abbrev pub is_known : List ℕ → Bool
 is_known head = begins_known (drop (prefix_len is_end head) head)
 
+-- 200, or 501 to a method that isn't known, or 417 to who expects what nobody here does (RFC 9110, section 10.1.1)
 abbrev pub answered : Bool → ParsedHead → ℕ → List ℕ
 answered known said len =
-    if known then (if said.met then granted said len else disappointed said.keeps) else declined said.keeps
+    if known then (if said.met then granted said len else refusal Unmet said.keeps) else refusal Unknown said.keeps

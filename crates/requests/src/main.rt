@@ -6,15 +6,15 @@
 //! that is too large (`is_large`); and then no more comes. It ends behind a request after which none may follow, and where the
 //! stream does. It asks the stream only for more of a head, or of a body behind the call, at last where that settles nothing
 //! (`CallsFor`, `AwaitsBody`), and once all that it wrote was sent, and sends only there, for room, and at the end (`Prompt`).
-//! Each request is answered before more is taken (`AnswersInTurns`); where a read fails it had to be made (`HadToAsk`), and
-//! where sending does, nothing was taken behind what failed (`AnswersPart`).
+//! Each request is answered before more is taken (`AnswersInTurns`); and behind a call of a stream that failed nothing is taken
+//! or asked (`AnswersPart`).
 #![tactic(auto)]
 
 mod limits;
 mod taking;
 mod writing;
 
-ghost use Rattle.std.specs.Prelude.{◌≡◌, ℕ, true, false, [], IsTrue, IfOk, None, Ok, OnOk};
+ghost use Rattle.std.specs.Prelude.{◌≡◌, ◌≤◌, ℕ, true, false, [], IsTrue, IfOk, None, Ok, OnOk};
 ghost use Rattle.std.specs.declared.io.Error.{Error};
 ghost use Rattle.redux_buffer.specs.Faults.{IsInterrupt};
 ghost use Rattle.buffer_redux.specs.Buffered.{Buffered};
@@ -26,7 +26,7 @@ ghost use Rattle.messages.specs.declared.head.Heads.{Heads};
 ghost use Rattle.messages.specs.Heads.{heads};
 ghost use Rattle.messages.specs.Limits.{usual};
 ghost use Rattle.messages.specs.Messages.{Begun, Enters, stop_answer};
-ghost use Rattle.requests.specs.Sending.{IsHeld, SendsUnless, WritesOnlyHeld, WritesPromptly};
+ghost use Rattle.requests.specs.Sending.{IsHeld, Prompt, SendsUnless};
 ghost use Rattle.requests.specs.Answers.{AnswersTurn, CallsFor, EndsSent, EndsUntaken, ServesRequests, ending_of, only_line_ends, sending_of, stream_in};
 ghost use Rattle.requests.specs.Texts.{early_refusal, is_known};
 
@@ -48,7 +48,12 @@ fn main(rt: HostRuntime) -> io::Result<()> {
     let alloc = rt.alloc();
     let mut writer = BufWriter::with_capacity(alloc, HELD, Told::new(rt.stdout()))?;
     match Requests::new(alloc, Told::new(rt.stdin())) {
-        Ok(requests) => serve(requests, &mut writer).1,
+        Ok(requests) => {
+            let answer = serve(requests, &mut writer).1;
+            // A drop would send once more what wasn't sent.
+            let _apart = writer.into_inner_with_buffer();
+            answer
+        }
         Err(_) => Err(io::Error::from(ErrorKind::OutOfMemory)),
     }
 }
@@ -66,6 +71,7 @@ fn serve<R: TellRead, W: TellWrite>(
     writer: &mut BufWriter<W>,
 ) -> (Place<R>, io::Result<()>)
     requires held { IsHeld writer.old }
+    requires room { 65536 ≤ writer.old.block.capacity }
     requires limits { requests.decoder.0 ≡ usual }
     ensures { ServesRequests R.remaining W.log W.trace (left_of requests) writer.old result.0 result.1 writer.new }
 {
@@ -174,7 +180,7 @@ fn stopped<R: TellRead, W: TellWrite>(
     ensures limits { IfOk result (λ next. next.decoder.0 ≡ usual) }
     ensures turns { (s : ReaderState R Heads) (w : Buffered W StdPolicy) → s.ended ≡ false
         → NextPiece R.remaining (heads usual) s (stop_answer stop) requests
-        → WritesOnlyHeld W.log W.trace (IsOpen (heads usual)) (left_of s, w) (left_of requests, writer.old)
+        → Prompt W.log W.trace (IsOpen (heads usual)) (left_of s, w) (Ok tt) (left_of requests, writer.old)
         → AnswersTurn R.remaining W.log W.trace (left_of s) w result writer.new }
 {
     if is_interrupt(&stop) {
@@ -186,7 +192,7 @@ fn stopped<R: TellRead, W: TellWrite>(
     match stop {
         Stop::Ended => Err((Place::Before(requests), Ending::Over)),
         Stop::Bad(why) => {
-            let ending = ending_of(refuse(refusal_of(why), writer));
+            let ending = ending_of(refuse(refusal_of(why), false, writer));
             Err((Place::Before(requests), ending))
         }
         Stop::Io(e) => Err((Place::Before(requests), Ending::Unread(e))),
@@ -233,13 +239,13 @@ fn answer_body<R: TellRead, W: TellWrite>(
     requires enters { Enters usual body }
     ensures limits { IfOk result (λ next. next.decoder.0 ≡ usual) }
     ensures turns { (s : ReaderState R Heads) (w : Buffered W StdPolicy) → Begun R.remaining s body
-        → WritesPromptly W.log W.trace (IsOpen (heads usual)) (left_of s, w) (Ok tt) (stream_in body, writer.old)
+        → Prompt W.log W.trace (IsOpen (heads usual)) (left_of s, w) (Ok tt) (stream_in body, writer.old)
         → AnswersTurn R.remaining W.log W.trace (left_of s) w result writer.new }
 {
     let said = body.said();
     match early_refusal(is_known(body.head()), said) {
         Some(why) => {
-            let ending = ending_of(refuse(why, writer));
+            let ending = ending_of(refuse(why, false, writer));
             Err((Place::Inside(body), ending))
         }
         None => match call_for_body(said, writer) {
@@ -288,8 +294,8 @@ fn unended<W: TellWrite>(e: Untaken, writer: &mut BufWriter<W>) -> Ending
 {
     match e {
         Untaken::Body(BodyError::Io(e)) => Ending::Unread(e),
-        Untaken::Body(_) => ending_of(refuse(Refusal::BadRequest, writer)),
-        Untaken::Large => ending_of(refuse(Refusal::LargeBody, writer)),
+        Untaken::Body(_) => ending_of(refuse(Refusal::BadRequest, false, writer)),
+        Untaken::Large => ending_of(refuse(Refusal::LargeBody, false, writer)),
         Untaken::Unsent(e) => Ending::Unsent(e),
         Untaken::Many => Ending::Many,
     }

@@ -1,5 +1,5 @@
 //! Bodies are taken whole, and their payload counted.
-ghost use Rattle.std.specs.Prelude.{◌≡◌, ℕ, ◌<◌, ◌≤◌, ◌⊎◌, false, List, [], length, take, IfErr, IfOk, MatchResult, Ok, OnOk};
+ghost use Rattle.std.specs.Prelude.{◌≡◌, ℕ, ◌<◌, ◌≤◌, false, List, [], length, take, IfErr, IfOk, MatchResult, Ok, OnOk};
 ghost use Rattle.buffer_redux.specs.Asking.{AskedWhere};
 ghost use Rattle.body_reader.specs.Between.{handed_out};
 ghost use Rattle.body_reader.specs.BodyReader.{IsBodyReader, TookWholeBody, handed_of};
@@ -7,10 +7,9 @@ ghost use Rattle.body_reader.specs.Coding.{LeadsOpen};
 ghost use Rattle.codec.specs.PieceReader.{left_of};
 ghost use Rattle.messages.specs.Limits.{usual};
 ghost use Rattle.messages.specs.Messages.{Enters, InsideGoes, body_rules};
-ghost use Rattle.requests.specs.Answers.{FailsOn, FailsToRead, HadToAsk, ReadsSome, ReadsSteadily, TakeFails, TakesWhole, sent_till, sent_with, stream_in, unfinished};
-ghost use Rattle.requests.specs.declared.Place.TheVariants.{Inside};
+ghost use Rattle.requests.specs.Answers.{FailsOn, FailsToRead, ReadsSome, ReadsSteadily, TakeFails, TakesWhole, sent_till, sent_with, stream_in};
 ghost use Rattle.requests.specs.Large.{IsAwaited, is_large};
-ghost use Rattle.requests.specs.Sending.{IsHeld, SendsUnless, WritesPromptly};
+ghost use Rattle.requests.specs.Sending.{IsHeld, Prompt, SendsUnless};
 
 use crate::limits::is_large;
 use crate::writing::send_held;
@@ -44,30 +43,21 @@ pub fn take_whole<R: TellRead, W: TellWrite>(
     ensures whole { IfOk result (λ r. TakesWhole R.remaining body (left_of r.1) r.0) }
     ensures steady { IfOk result (λ r. ReadsSteadily (stream_in body) (left_of r.1)) }
     ensures part { IfErr result (λ e. (handed : List ℕ) × InsideGoes R.remaining body handed e.0
-        × TakeFails (stream_in body) e.1 e.0 writer.new) }
+        × TakeFails (stream_in body) e.1 e.0) }
     ensures writes { MatchResult result
-        (λ r. WritesPromptly W.log W.trace (IsAwaited body.said.extent) (stream_in body, writer.old) (Ok tt)
+        (λ r. Prompt W.log W.trace (IsAwaited body.said.extent) (stream_in body, writer.old) (Ok tt)
         (left_of r.1, writer.new))
-        (λ e. WritesPromptly W.log W.trace (IsAwaited body.said.extent) (stream_in body, writer.old) (sent_till e.1)
+        (λ e. Prompt W.log W.trace (IsAwaited body.said.extent) (stream_in body, writer.old) (sent_till e.1)
         (stream_in e.0, writer.new)) }
 {
     let mut body = body;
     match payload_len(&mut body, writer) {
         Ok(len) => match body.finish() {
             Ok(requests) => Ok((len, requests)),
-            Err((body, e)) => Err((body, unfinished(e))),
+            // Nothing is asked for at the end of a body.
+            Err(_) => unreachable!(),
         },
         Err(e) => Err((body, e)),
-    }
-}
-
-// Why the end of a body isn't taken, for which nothing is asked: a fault is our own.
-fn unfinished(e: BodyError) -> Untaken
-    ensures { result ≡ unfinished e }
-{
-    match e {
-        BodyError::Io(_) => Untaken::Many,
-        e => Untaken::Body(e),
     }
 }
 
@@ -81,11 +71,11 @@ fn payload_len<R: TellRead, W: TellWrite>(
     requires enters { Enters usual body.old }
     ensures goes { (payload : List ℕ) × InsideGoes R.remaining body.old payload body.new }
     ensures many { IfOk result (λ len. len ≡ length (handed_of body.new.body)) }
-    ensures fails { IfErr result (λ e. TakeFails (stream_in body.old) e body.new writer.new) }
+    ensures fails { IfErr result (λ e. TakeFails (stream_in body.old) e body.new) }
     ensures ended { OnOk result (TookWholeBody (body_rules body.new.body.coding) body.new.body) }
     ensures small { IfOk result (λ len. is_large body.new.said.extent (length body.new.body.taken) len ≡ false) }
     ensures steady { OnOk result (ReadsSteadily (stream_in body.old) (stream_in body.new)) }
-    ensures writes { WritesPromptly W.log W.trace (IsAwaited body.old.said.extent) (stream_in body.old, writer.old)
+    ensures writes { Prompt W.log W.trace (IsAwaited body.old.said.extent) (stream_in body.old, writer.old)
         (sent_with result) (stream_in body.new, writer.new) }
 {
     let extent = body.said().extent;
@@ -115,16 +105,15 @@ fn read_on<R: TellRead, W: TellWrite>(
     out: &mut [u8],
     writer: &mut BufWriter<W>,
 ) -> Result<usize, Untaken>
-    requires some { 0 < length out.old }
+    requires room { 4096 ≤ length out.old }
     requires held { IsHeld writer.old }
     requires whole { IsBodyReader (body_rules body.old.body.coding) body.old.body }
     ensures bound { IfOk result (λ n. n ≤ length out.new) }
     ensures noted { IfOk result (λ n. 0 < n → body.new.body.calls.reads.latest ≡ take n out.new) }
     ensures goes { InsideGoes R.remaining body.old (handed_out out.new result) body.new }
     ensures reads { IfOk result (λ n. ReadsSome (stream_in body.old) n body.new) }
-    ensures fails { IfErr result (λ e. FailsOn body.old e body.new writer.new) }
-    ensures asked { ((stream_in body.new).log ≡ (stream_in body.old).log) ⊎ HadToAsk (Inside body.new) }
-    ensures writes { WritesPromptly W.log W.trace (LeadsOpen (body_rules body.old.body.coding) body.old.body.place [])
+    ensures fails { IfErr result (λ e. FailsOn body.old e body.new) }
+    ensures writes { Prompt W.log W.trace (LeadsOpen (body_rules body.old.body.coding) body.old.body.place [])
         (stream_in body.old, writer.old) (sent_with result) (stream_in body.new, writer.new) }
 {
     let count = body.read_buffered(out);

@@ -3,7 +3,7 @@ ghost use Rattle.std.specs.Prelude.{◌≡◌, ◌++◌, codes, map};
 ghost use Rattle.std.specs.List.{concat};
 ghost use Rattle.buffer_redux.specs.WriteParts.{WritesParts};
 ghost use Rattle.requests.specs.Sending.{IsHeld, SendsForRoom, SendsHeld};
-ghost use Rattle.requests.specs.Texts.{answered, begins_known, begins_often, called, declined, disappointed, early_refusal, granted, has_body, is_known, refusal, refusal_of, success, waits};
+ghost use Rattle.requests.specs.Texts.{answered, begins_known, begins_often, called, connection, early_refusal, granted, has_body, is_known, refusal, refusal_of, status, success, waits};
 
 use crate::limits::is_large;
 use buffer_redux::BufWriter;
@@ -43,8 +43,7 @@ fn begins_known(line: &[u8]) -> bool
 {
     begins_often(line)
         || (line.starts_with(b"DELETE ")
-            || (line.starts_with(b"OPTIONS ")
-                || (line.starts_with(b"TRACE ") || line.starts_with(b"PATCH "))))
+            || (line.starts_with(b"OPTIONS ") || line.starts_with(b"PATCH ")))
 }
 
 fn begins_often(line: &[u8]) -> bool
@@ -64,32 +63,12 @@ pub(crate) fn answer_whole<W: TellWrite>(
     ensures { WritesParts W.log W.trace writer.old (answered known said len) result writer.new }
 {
     if !known {
-        return put(writer, &[declined(said.keeps)]);
+        return refuse(Refusal::Unknown, said.keeps, writer);
     }
     if said.met {
         accept(len, said, writer)
     } else {
-        put(writer, &[disappointed(said.keeps)])
-    }
-}
-
-fn disappointed(keeps: bool) -> &'static [u8]
-    ensures { result.now ≡ disappointed keeps }
-{
-    if keeps {
-        b"HTTP/1.1 417 Expectation Failed\r\nContent-Length: 0\r\nConnection: keep-alive\r\n\r\n"
-    } else {
-        refusal_text(Refusal::Unmet)
-    }
-}
-
-fn declined(keeps: bool) -> &'static [u8]
-    ensures { result.now ≡ declined keeps }
-{
-    if keeps {
-        b"HTTP/1.1 501 Not Implemented\r\nContent-Length: 0\r\nConnection: keep-alive\r\n\r\n"
-    } else {
-        refusal_text(Refusal::Unknown)
+        refuse(Refusal::Unmet, said.keeps, writer)
     }
 }
 
@@ -182,38 +161,55 @@ pub(crate) fn refusal_of(why: BadHead) -> Refusal
     }
 }
 
-pub(crate) fn refuse<W: TellWrite>(why: Refusal, writer: &mut BufWriter<W>) -> io::Result<()>
-    ensures { WritesParts W.log W.trace writer.old (refusal why) result writer.new }
+// Refuses what came, and says whether another request may follow.
+pub(crate) fn refuse<W: TellWrite>(
+    why: Refusal,
+    keeps: bool,
+    writer: &mut BufWriter<W>,
+) -> io::Result<()>
+    ensures { WritesParts W.log W.trace writer.old (refusal why keeps) result writer.new }
 {
-    put(writer, &[refusal_text(why)])
+    put_refusal(status(why), connection(keeps), writer)
 }
 
-fn refusal_text(why: Refusal) -> &'static [u8]
-    ensures { result.now ≡ refusal why }
+fn put_refusal<'a, W: TellWrite>(
+    status: &'a [u8],
+    connection: &'a [u8],
+    writer: &mut BufWriter<W>,
+) -> io::Result<()>
+    ensures { WritesParts W.log W.trace writer.old (codes "HTTP/1.1 " ++ (status.now
+        ++ (codes "\r\nContent-Length: 0\r\nConnection: " ++ (connection.now ++ codes "\r\n\r\n")))) result writer.new }
+{
+    put(
+        writer,
+        &[
+            b"HTTP/1.1 ",
+            status,
+            b"\r\nContent-Length: 0\r\nConnection: ",
+            connection,
+            b"\r\n\r\n",
+        ],
+    )
+}
+
+fn status(why: Refusal) -> &'static [u8]
+    ensures { result.now ≡ status why }
 {
     match why {
-        Refusal::BadRequest => {
-            b"HTTP/1.1 400 Bad Request\r\nContent-Length: 0\r\nConnection: close\r\n\r\n"
-        }
-        Refusal::LargeBody => {
-            b"HTTP/1.1 413 Content Too Large\r\nContent-Length: 0\r\nConnection: close\r\n\r\n"
-        }
-        Refusal::LongTarget => {
-            b"HTTP/1.1 414 URI Too Long\r\nContent-Length: 0\r\nConnection: close\r\n\r\n"
-        }
-        Refusal::Unmet => {
-            b"HTTP/1.1 417 Expectation Failed\r\nContent-Length: 0\r\nConnection: close\r\n\r\n"
-        }
-        Refusal::LargeHead => {
-            b"HTTP/1.1 431 Request Header Fields Too Large\r\nContent-Length: 0\r\nConnection: close\r\n\r\n"
-        }
-        Refusal::Unknown => {
-            b"HTTP/1.1 501 Not Implemented\r\nContent-Length: 0\r\nConnection: close\r\n\r\n"
-        }
-        Refusal::OtherVersion => {
-            b"HTTP/1.1 505 HTTP Version Not Supported\r\nContent-Length: 0\r\nConnection: close\r\n\r\n"
-        }
+        Refusal::BadRequest => b"400 Bad Request",
+        Refusal::LargeBody => b"413 Content Too Large",
+        Refusal::LongTarget => b"414 URI Too Long",
+        Refusal::Unmet => b"417 Expectation Failed",
+        Refusal::LargeHead => b"431 Request Header Fields Too Large",
+        Refusal::Unknown => b"501 Not Implemented",
+        Refusal::OtherVersion => b"505 HTTP Version Not Supported",
     }
+}
+
+fn connection(keeps: bool) -> &'static [u8]
+    ensures { result.now ≡ connection keeps }
+{
+    if keeps { b"keep-alive" } else { b"close" }
 }
 
 fn put<W: TellWrite>(writer: &mut BufWriter<W>, parts: &[&[u8]]) -> io::Result<()>

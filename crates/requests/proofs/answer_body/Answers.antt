@@ -1,10 +1,10 @@
 -- What the head settles is told at once; else the call is written while nobody is asked, and where either fails no byte of the
 -- body was taken.
-use Rattle.std.proofs.Common.{◌≡◌, ◌∙◌, ap, Bool, true, false, ◌&&◌, if◌then◌else◌, [], ◌++◌, Option, None, Some, Err, Ok, arith, refl, inl, inr, subst, sym}
+use Rattle.std.proofs.Common.{◌≡◌, ◌∙◌, ap, Bool, true, false, ◌&&◌, if◌then◌else◌, [], ◌++◌, Option, None, Some, Err, Ok, refl, inl, inr, subst, sym}
 use Rattle.requests.proofs.Names.{All-nil, AwaitsBody, Begun-went, called, early_refusal, handed_of, Inside, InsideGoes-none, is_called, is_known, left_of, MayFollow, Refusal, RunsToLast, SendsForRoom, stream_in, Unknown, Unmet, Unsent, waits}
 use Rattle.requests.proofs.Answering.{RunsToLast-one, RunsToLast-refused}
 use Rattle.requests.proofs.Reading.{begun_steady, is_part, part_went}
-use Rattle.requests.proofs.Sending.{PutsText-none, PutsText-put, WritesPromptly-none}
+use Rattle.requests.proofs.Sending.{Prompt-none, SendsForRoom-held}
 use Rattle.requests.proofs.answer_body.Goals as goal
 use Rattle.requests.proofs.answer_body.Goals.{After-early_refusal}
 
@@ -32,8 +32,7 @@ settled g c = c.early_refusal.ensures ∙ ap (early_refusal c.is_known.result) c
 
 pub answer_called-requires-clause-held : goal.answer_called-requires-clause-held
 answer_called-requires-clause-held g c =
-    (PutsText-put g.met.W.TellWrite.trace_joins c.args.writer.now c.args.writer.now c.call_for_body.new.writer _ (Ok tt)
-    (PutsText-none g.met.W.TellWrite.trace_none c.args.writer.now) c.in-Ok.ensures).held c.requires.held
+    SendsForRoom-held (Ok tt) c.in-Ok.ensures c.requires.held
 
 pub answer_called-requires-clause-open : goal.answer_called-requires-clause-open
 answer_called-requires-clause-open g c =
@@ -62,8 +61,8 @@ pub returns-in-Err-clause-turns : goal.returns-in-Err-clause-turns
 returns-in-Err-clause-turns g c = λ s w begun writes.
     let b = c.args.body in
     let none = InsideGoes-none g.R.TellRead.remaining b c.requires.enters.whole in
-    RunsToLast-one g.met.W.TellWrite.trace_none (b.head ++ none.went.wire) (handed_of b.body) (Inside b)
-    (is_part begun c.requires.enters none) (omega (arith, (begun_steady begun).ends)) [] None tt (Unsent c.in-Err.e) (
+    RunsToLast-one (b.head ++ none.went.wire) (handed_of b.body) (Inside b)
+    (is_part begun c.requires.enters none) (begun_steady begun).asks [] None tt (Unsent c.in-Err.e) (
       part_went begun none,
       inl (
         refl,
@@ -88,8 +87,8 @@ returns-in-Some-clause-turns g c = λ s w begun writes.
     ap called (no_call (waits b.said) (is_known b.head) b.said.met why is) in
     subst (λ x. RunsToLast g.R.TellRead.remaining g.W.Tell.log g.W.TellWrite.trace (left_of s) w (Inside b) x c.refuse.new.writer)
     (sym c.ending_of-ending.ensures)
-    (RunsToLast-refused g.met.W.TellWrite.trace_none (b.head ++ none.went.wire) (handed_of b.body) (Inside b)
-    (is_part begun c.requires.enters none) (omega (arith, (begun_steady begun).ends)) why c.refuse.result (
+    (RunsToLast-refused (b.head ++ none.went.wire) (handed_of b.body) (Inside b)
+    (is_part begun c.requires.enters none) (begun_steady begun).asks why c.refuse.result (
       part_went begun none,
       inr (
         (stream_in b, c.args.writer.now),
@@ -101,7 +100,7 @@ returns-in-Some-clause-turns g c = λ s w begun writes.
         },
         (
           c.args.writer.now,
-          WritesPromptly-none (AwaitsBody b.head b.said) g.met.W.TellWrite.trace_none (stream_in b, c.args.writer.now),
+          Prompt-none (AwaitsBody b.head b.said) (stream_in b, c.args.writer.now),
           c.refuse.ensures,
         ),
       ),

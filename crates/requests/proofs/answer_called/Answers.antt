@@ -24,10 +24,10 @@ returns-then-said-clause-turns g c = λ s w begun call.
         messages = (b.head, whole.1) ∷ [];
         each = (
           (left_of c.in-Ok.requests, c.answer_whole.new.writer),
-          one_answered g.met.W.TellWrite.trace_none g.met.W.TellWrite.trace_joins c.requires.open begun c.requires.enters whole
+          one_answered c.requires.open begun c.requires.enters whole
               c.said-said.ensures.value (c.is_known-known.ensures ∙ ap is_known c.head.ensures) call c.in-Ok.ensures.writes
               c.in-Ok-answer_whole.ensures,
-          no_turn g.met.W.TellWrite.trace_none (left_of c.in-Ok.requests, c.answer_whole.new.writer),
+          no_turn (left_of c.in-Ok.requests, c.answer_whole.new.writer),
         );
         keep = All-cons (MayFollow true) (b.head, whole.1) [] (b.said, head, keeps) (All-nil (MayFollow true));
         reads = reads;
@@ -41,10 +41,10 @@ returns-else-said-clause-turns g c = λ s w begun call.
     let head = begun_head begun c.requires.enters in
     let whole = c.in-Ok.ensures.whole in
     let reads = steadily (begun_steady begun) c.in-Ok.ensures.steady in
-    let one = one_answered g.met.W.TellWrite.trace_none g.met.W.TellWrite.trace_joins c.requires.open begun c.requires.enters
+    let one = one_answered c.requires.open begun c.requires.enters
     whole c.said-said.ensures.value (c.is_known-known.ensures ∙ ap is_known c.head.ensures) call c.in-Ok.ensures.writes
     c.in-Ok-answer_whole.ensures in
-    RunsToLast-one g.met.W.TellWrite.trace_none [] [] (Before c.in-Ok.requests) (refl, refl) (omega (arith, reads.ends))
+    RunsToLast-one [] [] (Before c.in-Ok.requests) (refl, refl) reads.asks
     ((b.head, c.in-Ok.ensures.whole.1) ∷ []) None tt Over (one, refl, refl) (
       reads.faults,
       inl (
@@ -60,15 +60,15 @@ returns-in-Err-answer_whole-clause-turns g c = λ s w begun call.
     let b = c.args.body in
     let head = begun_head begun c.requires.enters in
     let reads = steadily (begun_steady begun) c.in-Ok.ensures.steady in
-    let one = one_answered g.met.W.TellWrite.trace_none g.met.W.TellWrite.trace_joins c.requires.open begun c.requires.enters
+    let one = one_answered c.requires.open begun c.requires.enters
     c.in-Ok.ensures.whole c.said-said.ensures.value (c.is_known-known.ensures ∙ ap is_known c.head.ensures) call
     c.in-Ok.ensures.writes c.in-Err-answer_whole.ensures in
-    RunsToLast-one g.met.W.TellWrite.trace_none [] [] (Before c.in-Ok.requests) (refl, refl) (omega (arith, reads.ends))
+    RunsToLast-one [] [] (Before c.in-Ok.requests) (refl, refl) reads.asks
     ((b.head, c.in-Ok.ensures.whole.1) ∷ []) None tt (Unsent c.in-Err-answer_whole.e) (one, refl, refl)
     (reads.faults, follows (left_of s) (Before c.in-Ok.requests) b.said.keeps head refl reads.ends)
 
 pub returns-in-Err-clause-turns : goal.returns-in-Err-clause-turns
 returns-in-Err-clause-turns g c = λ s w begun call.
     let part = c.in-Err.ensures.part in
-    torn_answered g.met.W.TellWrite.trace_none g.met.W.TellWrite.trace_joins c.requires.open begun c.requires.enters part.1 call
+    torn_answered c.requires.open begun c.requires.enters part.1 call
     c.in-Err.why c.unended-ending.result part.2 c.in-Err.ensures.writes c.unended-ending.ensures

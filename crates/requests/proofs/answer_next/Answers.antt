@@ -1,17 +1,16 @@
 -- Where no head is settled what is held is sent first, so the stream is asked with nothing held.
-use Rattle.std.proofs.Common.{true, [], Ok, None, sym, subst, inl, inr, refl, arith}
-use Rattle.requests.proofs.Names.{All-nil, Before, heads, IsOpen, left_of, MayFollow, StreamWent-none, Unsent, usual, WritesPromptly}
+use Rattle.std.proofs.Common.{true, [], Ok, None, sym, subst, inl, inr, refl}
+use Rattle.requests.proofs.Names.{All-nil, Before, heads, IsOpen, left_of, MayFollow, Prompt, StreamWent-none, Unsent, usual}
 use Rattle.requests.proofs.Answering.{RunsToLast-one}
 use Rattle.requests.proofs.Coming.{comes, open_where, usually}
-use Rattle.requests.proofs.Reading.{begun_enters, none_met}
-use Rattle.requests.proofs.Sending.{WritesPromptly-unsent}
+use Rattle.requests.proofs.Reading.{begun_enters, none_met, steady_same}
+use Rattle.requests.proofs.Sending.{Prompt-held, Prompt-unsent}
 use Rattle.requests.proofs.answer_next.Goals as goal
 
 pub answer_body-requires-clause-held : goal.answer_body-requires-clause-held
 answer_body-requires-clause-held g c =
-    (comes g.met.W.TellWrite.trace_none c.args.requests c.args.writer.now
-    c.send_to_ask.new.writer c.in-Ok.ensures _ c.in-Ok-next.ensures.next.behind
-    (usually c.requires.limits c.in-Ok-next.ensures.next.next)).writes.puts.held c.requires.held
+    Prompt-held (Ok tt) (comes c.args.requests c.args.writer.now c.send_to_ask.new.writer c.in-Ok.ensures _
+    c.in-Ok-next.ensures.next.behind (usually c.requires.limits c.in-Ok-next.ensures.next.next)) c.requires.held
 
 pub answer_body-requires-clause-enters : goal.answer_body-requires-clause-enters
 answer_body-requires-clause-enters g c = begun_enters c.in-Ok-next.ensures.next c.requires.limits
@@ -19,25 +18,25 @@ answer_body-requires-clause-enters g c = begun_enters c.in-Ok-next.ensures.next 
 pub returns-in-Ok-next-clause-turns : goal.returns-in-Ok-next-clause-turns
 returns-in-Ok-next-clause-turns g c =
     let begun = c.in-Ok-next.ensures.next in
-    let came = comes g.met.W.TellWrite.trace_none c.args.requests c.args.writer.now
+    let came = comes c.args.requests c.args.writer.now
     c.send_to_ask.new.writer c.in-Ok.ensures _ begun.behind (usually c.requires.limits begun.next) in
     c.answer_body.ensures.turns c.args.requests c.args.writer.now begun
-    (subst (λ u. WritesPromptly g.W.Tell.log g.W.TellWrite.trace (IsOpen (heads usual))
-    (left_of c.args.requests, c.args.writer.now) (Ok tt) (u, c.send_to_ask.new.writer)) (sym begun.stream) came.writes)
+    (subst (λ u. Prompt g.W.Tell.log g.W.TellWrite.trace (IsOpen (heads usual))
+    (left_of c.args.requests, c.args.writer.now) (Ok tt) (u, c.send_to_ask.new.writer)) (sym begun.stream) came)
 
 pub returns-in-Err-next-clause-turns : goal.returns-in-Err-next-clause-turns
 returns-in-Err-next-clause-turns g c =
     let next = usually c.requires.limits c.in-Err-next.ensures.next in
     c.stopped.ensures.turns c.args.requests c.args.writer.now c.in-Err-next.ensures.told next
-    (comes g.met.W.TellWrite.trace_none c.args.requests c.args.writer.now
+    (comes c.args.requests c.args.writer.now
     c.send_to_ask.new.writer c.in-Ok.ensures _ c.in-Err-next.requests next)
 
 pub returns-in-Err-clause-turns : goal.returns-in-Err-clause-turns
 returns-in-Err-clause-turns g c =
     let s = left_of c.args.requests in
-    RunsToLast-one g.met.W.TellWrite.trace_none [] [] (Before c.args.requests) (refl, refl) (omega arith) [] None tt
+    RunsToLast-one [] [] (Before c.args.requests) (refl, refl) (steady_same s s refl).asks [] None tt
     (Unsent c.in-Err.e) (
       StreamWent-none g.R.TellRead.remaining s,
-      WritesPromptly-unsent (IsOpen (heads usual)) g.met.W.TellWrite.trace_none s c.args.writer.now c.send_to_ask.new.writer
+      Prompt-unsent (IsOpen (heads usual)) s c.args.writer.now c.send_to_ask.new.writer
           c.in-Err.e c.in-Err.ensures (λ unsettled. inr (open_where c.args.requests unsettled)),
     ) (none_met refl, inl (All-nil (MayFollow true)))

@@ -3,18 +3,18 @@ use Rattle.std.proofs.Common.{[], ◌++◌, None, true, refl, sym, append-nil, a
 use Rattle.requests.proofs.Names.{All-append, All-nil, heads, IsOpen, left_of, MayFollow, StreamWent-none, usual}
 use Rattle.requests.specs.declared.Ending.TheVariants.{Many}
 use Rattle.requests.proofs.Answering.{no_turn}
-use Rattle.requests.proofs.Reading.{steadily, steady_none}
-use Rattle.requests.proofs.Sending.{WritesPromptly-none}
-use Rattle.requests.proofs.Turns.{AnswersEach-joins, AnswersEach-whole, RunsToLast-after, RunsToLast-held}
+use Rattle.requests.proofs.Reading.{steadily, steady_same}
+use Rattle.requests.proofs.Sending.{Prompt-none}
+use Rattle.requests.proofs.Turns.{AnswersEach-held, AnswersEach-joins, RunsToLast-after, RunsToLast-held}
 use Rattle.requests.proofs.serve.Goals as goal
 
 pub loop-message-init : goal.loop-message-init
 loop-message-init g c = record {
   goes = record {
     messages = [];
-    each = no_turn g.met.W.TellWrite.trace_none (left_of c.args.requests, c.args.writer.now);
+    each = no_turn (left_of c.args.requests, c.args.writer.now);
     keep = All-nil (MayFollow true);
-    reads = steady_none (refl, refl);
+    reads = steady_same _ _ refl;
   };
   turns = omega arith;
   held = c.requires.held;
@@ -26,25 +26,24 @@ loop-message-preserved g c =
     let before = c.loop-message.invariant in
     let a = before.goes in
     let b = c.in-Ok.ensures.turns.0 in
-    let wrote = AnswersEach-whole g.R.TellRead.remaining g.W.Tell.log g.met.W.TellWrite.trace_joins b.messages
-    (left_of c.loop-message.next, c.loop-message.writer) (left_of c.in-Ok.behind, c.answer.new.writer) b.each in
     record {
       goes = record {
         messages = a.messages ++ b.messages;
-        each = AnswersEach-joins g.R.TellRead.remaining g.W.Tell.log g.met.W.TellWrite.trace_joins a.messages b.messages
+        each = AnswersEach-joins g.R.TellRead.remaining g.W.Tell.log g.W.TellWrite.trace a.messages b.messages
             (left_of c.args.requests, c.args.writer.now) (left_of c.loop-message.next, c.loop-message.writer)
             (left_of c.in-Ok.behind, c.answer.new.writer) a.each b.each;
         keep = All-append (MayFollow true) a.messages b.messages a.keep b.keep;
         reads = steadily a.reads b.reads;
       };
       turns = omega (arith, before.turns, c.in-Ok.ensures.turns.1, length-append a.messages b.messages);
-      held = wrote.5.held before.held;
+      held = AnswersEach-held g.R.TellRead.remaining g.W.Tell.log g.W.TellWrite.trace b.messages
+          (left_of c.loop-message.next, c.loop-message.writer) (left_of c.in-Ok.behind, c.answer.new.writer) b.each before.held;
       limits = c.in-Ok.ensures.limits;
     }
 
 pub send_last-answer-requires : goal.send_last-answer-requires
 send_last-answer-requires g c = record {
-  held = RunsToLast-held g.R.TellRead.remaining g.W.Tell.log g.met.W.TellWrite.trace_joins c.in-Err.ending
+  held = RunsToLast-held g.R.TellRead.remaining g.W.Tell.log g.W.TellWrite.trace c.in-Err.ending
       c.in-Err.ensures.turns c.loop-message.invariant.held;
 }
 
@@ -52,7 +51,7 @@ pub returns-in-Err : goal.returns-in-Err
 returns-in-Err g c = record {
   ending = c.in-Err.ending;
   held = c.answer.new.writer;
-  runs = RunsToLast-after g.R.TellRead.remaining g.W.Tell.log g.met.W.TellWrite.trace_joins c.loop-message.invariant.goes
+  runs = RunsToLast-after g.R.TellRead.remaining g.W.Tell.log g.W.TellWrite.trace c.loop-message.invariant.goes
       c.in-Err.ending c.in-Err.ensures.turns;
   last = c.send_last-answer.ensures;
 }
@@ -76,11 +75,10 @@ returns g c =
           each = before.goes.each;
           turn = (
             StreamWent-none g.R.TellRead.remaining (left_of c.loop-message.next),
-            WritesPromptly-none (IsOpen (heads usual)) g.met.W.TellWrite.trace_none
-                (left_of c.loop-message.next, c.loop-message.writer),
+            Prompt-none (IsOpen (heads usual)) (left_of c.loop-message.next, c.loop-message.writer),
           );
         };
-        once = omega (arith, before.goes.reads.ends);
+        asks = before.goes.reads.asks;
         wrong = tt;
         ends = (before.goes.reads.faults, before.goes.keep, refl, omega (arith, before.turns, c.loop-message-test.false));
       };

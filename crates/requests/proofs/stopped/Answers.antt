@@ -3,7 +3,7 @@ use Rattle.std.proofs.Common.{None, ◌∙◌, IsTrue, [], ◌∷◌, true, ap, 
 use Rattle.requests.proofs.Names.{All-nil, Before, faults_of, left_of, MayFollow, MetEnd-once, never_cut, only_line_ends, OnlyInterrupts-none, OnlyInterrupts-one, Over, refusal_of, RunsToLast, Unread}
 use Rattle.messages.specs.declared.requests.Stop.TheVariants.{Bad}
 use Rattle.requests.proofs.Answering.{RunsToLast-one, RunsToLast-refused}
-use Rattle.requests.proofs.Reading.{failed_behind, none_met, nothing_went}
+use Rattle.requests.proofs.Reading.{failed_behind, next_few, none_met, nothing_went}
 use Rattle.requests.proofs.stopped.Goals as goal
 
 pub returns-then-is_interrupt-clause-turns : goal.returns-then-is_interrupt-clause-turns
@@ -13,11 +13,12 @@ returns-then-is_interrupt-clause-turns g c = λ s w told next comes.
     let answers = fault.answers in (
       record {
         messages = [];
-        each = (nothing_went fault answers.0, comes.writes);
+        each = (nothing_went fault answers.0, comes);
         keep = All-nil (MayFollow true);
         reads = record {
           faults = OnlyInterrupts-one (faults_of (left_of s)) (faults_of (left_of c.args.requests)) was.0 was.2 answers.2;
           ends = answers.4;
+          asks = next_few _ fault told;
         };
       },
       omega (arith, ap length answers.2, length-append (faults_of (left_of s)) (was.0 ∷ [])),
@@ -27,8 +28,8 @@ pub returns-in-Ended-clause-turns : goal.returns-in-Ended-clause-turns
 returns-in-Ended-clause-turns g c = λ s w told next comes.
     let ended = rw c.in-Ended.is at next in
     let met = MetEnd-once s c.args.requests told ended.answers.4 in
-    RunsToLast-one g.met.W.TellWrite.trace_none [] [] (Before c.args.requests) (refl, refl) (omega (arith, met)) [] None tt Over
-    (nothing_went ended ended.answers.0, comes.writes) (
+    RunsToLast-one [] [] (Before c.args.requests) (refl, refl) (next_few _ ended told) [] None tt Over
+    (nothing_went ended ended.answers.0, comes) (
       none_met ended.answers.2,
       inr (All-nil (MayFollow true), inr (omega (arith, met), subst (λ l. IsTrue (only_line_ends l)) (sym ended.answers.1) refl)),
     )
@@ -41,8 +42,8 @@ returns-then-is_blank_end-clause-turns g c = λ s w told next comes.
       | inl wrong ↦ absurd (never_cut _ _ _ wrong.0)
       | inr end ↦
           (let met = MetEnd-once s c.args.requests told end.3 in
-          RunsToLast-one g.met.W.TellWrite.trace_none [] [] (Before c.args.requests) (refl, refl) (omega (arith, met)) [] None tt
-          Over (nothing_went cut cut.answers.0, comes.writes) (
+          RunsToLast-one [] [] (Before c.args.requests) (refl, refl) (next_few _ cut told) [] None tt
+          Over (nothing_went cut cut.answers.0, comes) (
             none_met cut.answers.1,
             inr (
               All-nil (MayFollow true),
@@ -57,12 +58,9 @@ returns-in-Bad-clause-turns g c = λ s w told next comes.
     let sending = c.refuse.result in
     let why = c.refusal_of.result in
     subst (λ x. RunsToLast g.R.TellRead.remaining g.W.Tell.log g.W.TellWrite.trace (left_of s) w (Before c.args.requests) x
-    c.refuse.new.writer) (sym c.ending_of-ending.ensures) (RunsToLast-refused g.met.W.TellWrite.trace_none [] []
+    c.refuse.new.writer) (sym c.ending_of-ending.ensures) (RunsToLast-refused [] []
     (Before c.args.requests) (refl, refl)
-    (elim bad.answers.3 [
-      | inl wrong ↦ omega (arith, wrong.1)
-      | inr cut ↦ omega (arith, MetEnd-once s c.args.requests told cut.3)
-    ]) why sending (nothing_went bad bad.answers.0, (c.args.writer.now, comes.writes, c.refuse.ensures))
+    (next_few _ bad told) why sending (nothing_went bad bad.answers.0, (c.args.writer.now, comes, c.refuse.ensures))
     (elim bad.answers.3 [
       | inl wrong ↦ inl (_, wrong.0, c.refusal_of.ensures)
       | inr cut ↦ inr (
@@ -79,22 +77,12 @@ pub returns-in-Io-clause-turns : goal.returns-in-Io-clause-turns
 returns-in-Io-clause-turns g c = λ s w told next comes.
     let fault = rw c.in-Io.is at next in
     let answers = fault.answers in
-    RunsToLast-one g.met.W.TellWrite.trace_none [] [] (Before c.args.requests) (refl, refl) (omega (arith, answers.4)) [] None tt
-    (Unread c.in-Io.e) (nothing_went fault answers.0, comes.writes) (
+    RunsToLast-one [] [] (Before c.args.requests) (refl, refl) (next_few _ fault told) [] None tt
+    (Unread c.in-Io.e) (nothing_went fault answers.0, comes) (
       (
         failed_behind _ _ _ c.in-Io.e (OnlyInterrupts-none (faults_of (left_of s))) answers.2,
         λ is. absurd (let odd = c.is_interrupt.ensures.no c.in-Io.e c.in-Io.is is in cc),
       ),
       All-nil (MayFollow true),
       refl,
-      elim comes.asked [
-        | inl same ↦ absurd (omega (
-          arith,
-          ap length answers.2,
-          ap (λ l. length l.reads.faults) same,
-          length-append (faults_of (left_of s)) (c.in-Io.e ∷ []),
-        ))
-        | inr all ↦ all
-      ],
-      answers.1,
     )

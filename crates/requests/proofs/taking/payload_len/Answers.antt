@@ -1,11 +1,11 @@
 -- The payload of each read joins what came before, which wasn't too large before the last read.
 use Rattle.std.proofs.Common.{◌≡◌, ◌∙◌, false, ℕ, zero, suc, ◌+◌, ◌<◌, ◌≤◌, ◌⊎◌, List, [], ◌++◌, length, take, Option, ap, arith, inl, inr, length-append, refl, subst, sym, Ok, Result}
-use Rattle.requests.proofs.Names.{Buffered, Enters, Error, handed_of, InBody, InsideGoes, InsideGoes-joins, InsideGoes-none, is_large, IsAwaited, length-take-le, sent_till, StdPolicy, stream_in, StreamLog, Unbuffered, usual, WritesPromptly}
+use Rattle.requests.proofs.Names.{Buffered, Enters, Error, handed_of, InBody, InsideGoes, InsideGoes-joins, InsideGoes-none, is_large, IsAwaited, length-take-le, Prompt, sent_till, StdPolicy, stream_in, StreamLog, Unbuffered, usual}
 use Rattle.requests.proofs.Coming.{GoesOn}
 use Rattle.messages.specs.declared.head.ParsedHead.{ParsedHead}
 use Rattle.requests.proofs.Large.{awaited, few_counted, tested, turns_large}
-use Rattle.requests.proofs.Reading.{TakeFails-of, inside_went, steadily, steady_none}
-use Rattle.requests.proofs.Sending.{WritesPromptly-none, WritesPromptly-on}
+use Rattle.requests.proofs.Reading.{TakeFails-of, inside_went, steadily, steady_same}
+use Rattle.requests.proofs.Sending.{Prompt-held, Prompt-none, Prompt-on}
 use Rattle.requests.proofs.taking.payload_len.Goals as goal
 
 -- one read more
@@ -29,15 +29,14 @@ latest_of (suc n) out bound few noted =
     inr (sym (noted (omega arith)), omega (arith, length-take-le (suc n) out bound, few))
 
 -- and it was asked for as more of the body is
-asks_on : {R W : Type 0} {remaining : R → Option (List ℕ)} {tells : W → StreamLog} {trace : W → W → Type 0}
-    (joins : (u v x : W) → trace u v → trace v x → trace u x) {b m : InBody R} {t : Unbuffered R} {payload : List ℕ} {len : ℕ}
+asks_on : {R W : Type 0} {remaining : R → Option (List ℕ)} {tells : W → StreamLog} {trace : W → W → Type 0} {b m : InBody R} {t : Unbuffered R} {payload : List ℕ} {len : ℕ}
     {w u v : Buffered W StdPolicy} (sending : Result (Unit {0}) Error) → Enters usual b → InsideGoes remaining b payload m
     → len ≡ length (handed_of m.body) → is_large m.said.extent (length m.body.taken) len ≡ false
-    → WritesPromptly tells trace (IsAwaited b.said.extent) (stream_in b, w) (Ok tt) (stream_in m, u)
-    → WritesPromptly tells trace (GoesOn m) (stream_in m, u) sending (t, v)
-    → WritesPromptly tells trace (IsAwaited b.said.extent) (stream_in b, w) sending (t, v)
-asks_on joins {b} {m} {t} {w = w} {u = u} {v = v} sending enters goes many small =
-    WritesPromptly-on joins (GoesOn m) (IsAwaited b.said.extent) (stream_in b, w) (stream_in m, u) (t, v) sending
+    → Prompt tells trace (IsAwaited b.said.extent) (stream_in b, w) (Ok tt) (stream_in m, u)
+    → Prompt tells trace (GoesOn m) (stream_in m, u) sending (t, v)
+    → Prompt tells trace (IsAwaited b.said.extent) (stream_in b, w) sending (t, v)
+asks_on {b = b} {m = m} {t = t} {w = w} {u = u} {v = v} sending enters goes many small =
+    Prompt-on (GoesOn m) (IsAwaited b.said.extent) (stream_in b, w) (stream_in m, u) (t, v) sending
     (inside_went goes).order (λ more on. awaited enters goes
     (subst (λ x. is_large x.extent (length m.body.taken) (length (handed_of m.body)) ≡ false) goes.said
     (subst (λ n. is_large m.said.extent (length m.body.taken) n ≡ false) many small)) more on)
@@ -49,7 +48,7 @@ pub returns-then-is_large-clause-fails : goal.returns-then-is_large-clause-fails
 returns-then-is_large-clause-fails g c =
     let b = c.args.body.now in
     let none : handed_of b.body ≡ [] = ap (λ x. handed_of x.body) c.requires.enters.is in (
-      steady_none (refl, refl),
+      steady_same _ _ refl,
       record {
         large = ap (λ l. is_large b.said.extent (length b.body.taken) (length l)) none
             ∙ tested _ b.said.extent _ 0 b.body.taken _ c.is_large.ensures (ap (λ x. x.extent) c.said-extent.ensures.value)
@@ -65,9 +64,9 @@ loop-read-init g c =
       payload = [];
       goes = InsideGoes-none g.R.TellRead.remaining b c.requires.enters.whole;
       many = sym (ap (λ x. length (handed_of x.body)) c.requires.enters.is);
-      steady = steady_none (refl, refl);
+      steady = steady_same _ _ refl;
       turns = omega arith;
-      writes = WritesPromptly-none (IsAwaited b.said.extent) g.met.W.TellWrite.trace_none (stream_in b, c.args.writer.now);
+      writes = Prompt-none (IsAwaited b.said.extent) (stream_in b, c.args.writer.now);
       held = c.requires.held;
       small = tested _ b.said.extent _ 0 b.body.taken _ c.is_large.ensures (ap (λ x. x.extent) c.said-extent.ensures.value)
           c.taken.ensures ∙ c.if-is_large.false;
@@ -99,9 +98,9 @@ loop-read-preserved g c =
         | inl ended ↦ (let odd = c.is_done.ensures.ended.1 ended in absurd (cc))
         | inr some ↦ omega (arith, some, before.turns)
       ];
-      writes = asks_on g.met.W.TellWrite.trace_joins (Ok tt) c.requires.enters before.goes before.many before.small before.writes
+      writes = asks_on (Ok tt) c.requires.enters before.goes before.many before.small before.writes
           read.writes;
-      held = read.writes.puts.held before.held;
+      held = Prompt-held (Ok tt) read.writes before.held;
       small = tested _ _ _ _ c.read_on.new.body.body.taken _ c.is_large-in-loop-read.ensures
           (same_extent c.said-extent.ensures.value before.goes read.goes) c.taken-in-loop-read.ensures ∙ c.if-is_large-2.false;
     }
@@ -132,7 +131,7 @@ returns-then-is_large-2-clause-fails g c =
 pub returns-then-is_large-2-clause-writes : goal.returns-then-is_large-2-clause-writes
 returns-then-is_large-2-clause-writes g c =
     let before = c.loop-read.invariant in
-    asks_on g.met.W.TellWrite.trace_joins (Ok tt) c.requires.enters before.goes before.many before.small before.writes
+    asks_on (Ok tt) c.requires.enters before.goes before.many before.small before.writes
     c.in-Ok.ensures.writes
 
 pub returns-then-is_done-clause-goes : goal.returns-then-is_done-clause-goes
@@ -156,7 +155,7 @@ returns-then-is_done-clause-steady g c = steadily c.loop-read.invariant.steady c
 pub returns-then-is_done-clause-writes : goal.returns-then-is_done-clause-writes
 returns-then-is_done-clause-writes g c =
     let before = c.loop-read.invariant in
-    asks_on g.met.W.TellWrite.trace_joins (Ok tt) c.requires.enters before.goes before.many before.small before.writes
+    asks_on (Ok tt) c.requires.enters before.goes before.many before.small before.writes
     c.in-Ok.ensures.writes
 
 pub returns-in-Err-clause-goes : goal.returns-in-Err-clause-goes
@@ -166,13 +165,12 @@ returns-in-Err-clause-goes g c =
 
 pub returns-in-Err-clause-fails : goal.returns-in-Err-clause-fails
 returns-in-Err-clause-fails g c =
-    TakeFails-of c.loop-read.body c.read_on.new.body c.loop-read.invariant.steady c.read_on.new.writer c.in-Err.e
-    c.in-Err.ensures.asked c.in-Err.ensures.fails
+    TakeFails-of c.loop-read.body c.read_on.new.body c.loop-read.invariant.steady c.in-Err.e c.in-Err.ensures.fails
 
 pub returns-in-Err-clause-writes : goal.returns-in-Err-clause-writes
 returns-in-Err-clause-writes g c =
     let before = c.loop-read.invariant in
-    asks_on g.met.W.TellWrite.trace_joins (sent_till c.in-Err.e) c.requires.enters before.goes before.many before.small
+    asks_on (sent_till c.in-Err.e) c.requires.enters before.goes before.many before.small
     before.writes c.in-Err.ensures.writes
 
 pub read_on-requires-clause-whole : goal.read_on-requires-clause-whole

@@ -1,5 +1,5 @@
 use Rattle.std.proofs.Common.{◌≡◌, ℕ, ◌+◌, ◌≤◌, false, List, length, Ok}
-use Rattle.requests.proofs.Names.{faults_of, handed_of, InsideGoes, is_large, IsAwaited, IsHeld, ReadsSteadily, stream_in, WritesPromptly}
+use Rattle.requests.proofs.Names.{faults_of, handed_of, InsideGoes, is_large, IsAwaited, IsHeld, Prompt, ReadsSteadily, stream_in}
 use Rattle.requests.proofs.taking.payload_len.Given as goal
 
 -- so much payload was read, which isn't too large, and each turn read some of it, or was interrupted
@@ -10,7 +10,7 @@ invariant-loop-read g l = record {
   many : l.len ≡ length (handed_of l.body.body);
   steady : ReadsSteadily (stream_in l.initial.body) (stream_in l.body);
   turns : l._read + length (faults_of (stream_in l.initial.body)) ≤ l.len + length (faults_of (stream_in l.body));
-  writes : WritesPromptly g.W.Tell.log g.W.TellWrite.trace (IsAwaited l.initial.body.said.extent)
+  writes : Prompt g.W.Tell.log g.W.TellWrite.trace (IsAwaited l.initial.body.said.extent)
       (stream_in l.initial.body, l.initial.writer) (Ok tt) (stream_in l.body, l.writer);
   held : IsHeld l.writer;
   small : is_large l.body.said.extent (length l.body.body.taken) l.len ≡ false;

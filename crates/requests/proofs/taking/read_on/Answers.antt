@@ -1,10 +1,10 @@
 -- The stream is asked only where nothing buffered is payload, and what was held was sent then.
-use Rattle.std.proofs.Common.{◌≡◌, ◌∙◌, ℕ, [], take, Option, List, ap, arith, inl, inr, length, rules, subst, sym}
+use Rattle.std.proofs.Common.{◌≡◌, ℕ, [], take, Option, List, ap, arith, length, subst, sym}
 use Rattle.body_reader.specs.Between.{handed_out}
-use Rattle.requests.proofs.Names.{InBody, InsideGoes, InsideGoes-joins, stream_in, WritesPromptly}
+use Rattle.requests.proofs.Names.{InBody, InsideGoes, InsideGoes-joins, Prompt, stream_in}
 use Rattle.requests.proofs.Coming.{GoesOn, NoneLeft, comes_inside, unsent_empty}
-use Rattle.requests.proofs.Reading.{fails_since, had_to_ask, inside_went, reads_since, sent_so}
-use Rattle.requests.proofs.Sending.{WritesPromptly-read}
+use Rattle.requests.proofs.Reading.{fails_since, inside_went, reads_since, sent_so}
+use Rattle.requests.proofs.Sending.{Prompt-read}
 use Rattle.requests.proofs.taking.read_on.Goals as goal
 
 read_none : {R : Type 0} {remaining : R → Option (List ℕ)} {b m : InBody R} {count : ℕ} (out : List ℕ) → count ≡ 0
@@ -14,7 +14,7 @@ read_none {R} {remaining} {b} {m} out none goes =
 
 pub returns-then-count-gt0-clause-writes : goal.returns-then-count-gt0-clause-writes
 returns-then-count-gt0-clause-writes g c =
-    WritesPromptly-read (GoesOn c.args.body.now) g.met.W.TellWrite.trace_none c.args.writer.now
+    Prompt-read (GoesOn c.args.body.now) c.args.writer.now
     (inside_went c.read_buffered-count.ensures.goes).order c.read_buffered-count.ensures.unasked
 
 pub returns-then-is_done-clause-goes : goal.returns-then-is_done-clause-goes
@@ -23,7 +23,7 @@ returns-then-is_done-clause-goes g c =
 
 pub returns-then-is_done-clause-writes : goal.returns-then-is_done-clause-writes
 returns-then-is_done-clause-writes g c =
-    WritesPromptly-read (GoesOn c.args.body.now) g.met.W.TellWrite.trace_none c.args.writer.now
+    Prompt-read (GoesOn c.args.body.now) c.args.writer.now
     (inside_went c.read_buffered-count.ensures.goes).order c.read_buffered-count.ensures.unasked
 
 pub returns-in-Ok : goal.returns-in-Ok
@@ -36,9 +36,9 @@ returns-in-Ok g c =
     let out = c.read_buffered-count.new.out in
     let zero : c.read_buffered-count.result ≡ 0 = omega (arith, c.if-count-gt0.false) in
     let goes = read_none out zero none.goes in
-    let comes = comes_inside g.met.W.TellWrite.trace_none g.met.W.TellWrite.trace_joins b m c.requires.whole goes none.unasked
+    let comes = comes_inside b m c.requires.whole goes none.unasked
     c.args.writer.now c.send_unless_shown.new.writer t c.read_buffered-count.result out read.goes c.in-Ok.ensures zero
-    (search rules)
+    (omega (arith, c.requires.room))
     (λ done. let odd = c.is_done.ensures.ended.1 done in absurd (cc))
     (subst (λ x. NoneLeft x m.body c.read_buffered-count.result (length out)) (sym none.reads.went.coding) none.reads.all)
     read.asked read.asks in
@@ -47,11 +47,10 @@ returns-in-Ok g c =
       noted = read.noted;
       goes = InsideGoes-joins g.R.TellRead.remaining b m t [] (handed_out c.read.new.out c.read.result) goes read.goes;
       reads = reads_since b m t none.unasked c.read.result read.reads;
-      fails = fails_since b m t none.unasked c.read.result comes.asked read.fails;
-      asked = elim (had_to_ask m t goes.whole read.goes read.asked) [ inl same ↦ inl (same ∙ none.unasked) | inr had ↦ inr had ];
-      writes = subst (λ r. WritesPromptly g.W.Tell.log g.W.TellWrite.trace (GoesOn b) (stream_in b, c.args.writer.now) r
+      fails = fails_since b m t none.unasked c.read.result read.fails;
+      writes = subst (λ r. Prompt g.W.Tell.log g.W.TellWrite.trace (GoesOn b) (stream_in b, c.args.writer.now) r
           (stream_in t, c.send_unless_shown.new.writer))
-          (sym (sent_so b m t none.unasked c.read.result read.fails)) comes.writes;
+          (sym (sent_so b m t none.unasked c.read.result read.fails)) comes;
     }
 
 pub returns-in-Err-clause-goes : goal.returns-in-Err-clause-goes
@@ -60,7 +59,7 @@ returns-in-Err-clause-goes g c =
 
 pub returns-in-Err-clause-writes : goal.returns-in-Err-clause-writes
 returns-in-Err-clause-writes g c =
-    unsent_empty g.met.W.TellWrite.trace_none g.met.W.TellWrite.trace_joins c.args.body.now c.read_buffered-count.new.self
+    unsent_empty c.args.body.now c.read_buffered-count.new.self
     c.requires.whole
     (read_none c.read_buffered-count.new.out (omega (arith, c.if-count-gt0.false)) c.read_buffered-count.ensures.goes)
     c.read_buffered-count.ensures.unasked c.args.writer.now c.send_unless_shown.new.writer c.in-Err.e c.in-Err.ensures

@@ -1,6 +1,6 @@
 -- Where no more of the body comes it has ended, so it can be finished, and the stream is asked for nothing.
 use Rattle.std.proofs.Common.{◌≡◌, ◌++◌, ◌∙◌, ap, false, length, Ok, subst, sym}
-use Rattle.requests.proofs.Names.{body_rules, handed_of, is_large, IsAwaited, ReadsSteadily, stream_in, TakesWhole, TookWholeBody, whole_body, WritesPromptly}
+use Rattle.requests.proofs.Names.{body_rules, handed_of, is_large, IsAwaited, Prompt, ReadsSteadily, stream_in, TakesWhole, TookWholeBody, whole_body}
 use Rattle.requests.proofs.Reading.{finishes, inside_went, left_there}
 use Rattle.requests.proofs.taking.take_whole.Goals as goal
 
@@ -37,12 +37,9 @@ returns-in-Ok-finish-clause-steady g c = subst (ReadsSteadily (stream_in c.args.
     (sym (left_there c.in-Ok.ensures.ended c.in-Ok-finish.ensures.ends)) c.in-Ok.ensures.steady
 
 pub returns-in-Ok-finish-clause-writes : goal.returns-in-Ok-finish-clause-writes
-returns-in-Ok-finish-clause-writes g c = subst (λ u. WritesPromptly g.W.Tell.log g.W.TellWrite.trace
+returns-in-Ok-finish-clause-writes g c = subst (λ u. Prompt g.W.Tell.log g.W.TellWrite.trace
     (IsAwaited c.args.body.said.extent) (stream_in c.args.body, c.args.writer.now) (Ok tt) (u, c.payload_len.new.writer))
     (sym (left_there c.in-Ok.ensures.ended c.in-Ok-finish.ensures.ends)) c.in-Ok.ensures.writes
 
-pub returns-in-Err-finish-clause-part : goal.returns-in-Err-finish-clause-part
-returns-in-Err-finish-clause-part g c = absurd (finishes c.in-Ok.ensures.ended c.in-Err-finish.ensures.ends)
-
-pub returns-in-Err-finish-clause-writes : goal.returns-in-Err-finish-clause-writes
-returns-in-Err-finish-clause-writes g c = absurd (finishes c.in-Ok.ensures.ended c.in-Err-finish.ensures.ends)
+pub unreachable-requires : goal.unreachable-requires
+unreachable-requires g c = finishes c.in-Ok.ensures.ended c.in-Err-finish.ensures.ends
