@@ -304,7 +304,11 @@ module _ {R W : Type 0} (remaining : R → Option (List ℕ)) (tells : W → Str
             takes = takes;
           };
           sent = λ sent. sent;
-          asks = record { asked = asked; some = some; offer = fill_offers s.source t filled fills held lacks some ∙ ready.capacity };
+          asks = record {
+            asked = asked;
+            some = some;
+            offer = fill_offers s.source t filled fills held lacks some ∙ ready.capacity;
+          };
           once = record { once = quiet; quiet = λ closed. absurd closed; closed = λ closed. closed };
           looks = elim answer as (λ a. OnErr a (Unit {0})) [ Ok more ↦ tt | Err why ↦ tt ];
           answers = answers;

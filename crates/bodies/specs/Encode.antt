@@ -85,8 +85,8 @@ EncodeRan read read' written written' (Err (Io e)) =
     × (OverCount e (length m.taken) read read' written written' ⊎ RefusedBeforeCalls e read read' written written')
 EncodeRan read read' written written' (Err other) = ⊥
 
--- all that a run of `encode` promises: each ask was for 8192 bytes, so that no chunk has more, and the writer was flushed once for
--- each at most, and once more
+-- all that a run of `encode` promises: each ask was for 8192 bytes, so that no chunk has more, and the writer was flushed once
+-- for each at most, and once more
 pub record Encodes (read read' written written' : StreamLog) (answer : Result (Unit {0}) RunError) : Type 0 where
   pub ran : EncodeRan read read' written written' answer
   pub offers : OffersBuffer false 8192 read read'

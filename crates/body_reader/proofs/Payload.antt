@@ -104,7 +104,8 @@ module _ {S Q C P W : Type 0} (remaining : S → Option (List ℕ)) (rules : Rea
   still = state_is hands.0.0.takes given is known
 
   abbrev Ends : Result ℕ (BodyError W) → Type 0
-  Ends a = MatchResult a (λ n. EachGave r r' × HandsSome remaining rules g k p out r' q k' n) (λ e. PayloadFails remaining rules g r e r' q)
+  Ends a = MatchResult a (λ n. EachGave r r' × HandsSome remaining rules g k p out r' q k' n)
+      (λ e. PayloadFails remaining rules g r e r' q)
 
   answered : (a : Result ℕ (BodyError W)) → Ends a
       → MatchResult a (λ n. (n ≤ length out) × EachGave r r' × (n ≡ 0 → 0 < length out → TookWholeBody g after))

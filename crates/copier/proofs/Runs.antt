@@ -99,15 +99,16 @@ module _ {R W : Type 0} (remaining : R → Option (List ℕ)) (tells : W → Str
       (λ takes. omega (arith, copy.one_end takes))
 
   -- all that a copy comes to
-  pub copies_say : (answer : Result ℕ Error) (v : Buffered W StdPolicy) → CopiesAll remaining tells trace answer s s' t v → record {
-    a_beginning : IsBeginning s.log s'.log t.log v.log;
-    copied : IfOk answer (λ total. Copied total s.log s'.log t.log v.log);
-    stopped : IfErr answer (λ e. RunStopped e s.log s'.log t.log v.log);
-    once : EndsOnce s.log.reads s'.log.reads;
-    all : CopiesAll remaining tells trace answer s s' t v;
-    offers : (s'.log.reads ≡ s.log.reads) ⊎ (s'.log.reads.offer ≡ s.block.capacity);
-    sends : HoldsBackAtMost (most_held t.block.capacity) s.log s'.log t.log v.log;
-  }
+  pub copies_say : (answer : Result ℕ Error) (v : Buffered W StdPolicy) → CopiesAll remaining tells trace answer s s' t v
+      → record {
+        a_beginning : IsBeginning s.log s'.log t.log v.log;
+        copied : IfOk answer (λ total. Copied total s.log s'.log t.log v.log);
+        stopped : IfErr answer (λ e. RunStopped e s.log s'.log t.log v.log);
+        once : EndsOnce s.log.reads s'.log.reads;
+        all : CopiesAll remaining tells trace answer s s' t v;
+        offers : (s'.log.reads ≡ s.log.reads) ⊎ (s'.log.reads.offer ≡ s.block.capacity);
+        sends : HoldsBackAtMost (most_held t.block.capacity) s.log s'.log t.log v.log;
+      }
   copies_say answer v all =
       let came = comes all.copied v all.target
       (copy_holds remaining tells trace went all.target source.bytes target.bytes whole all.copying all.copy all.turns)

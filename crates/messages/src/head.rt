@@ -110,8 +110,8 @@ fn refused(text: &[u8], limits: Limits) -> Option<BadHead>
 
 /// What a head says: these bytes are just a head, of HTTP/1.0, or of 1.1 and later ones, which are read as 1.1, whose target is
 /// one, with one `Host`, which 1.0 may leave out and which names a host or is empty, and at most one field that says where the
-/// body ends, as RFC 9112, section 6 has it, with no coding but `chunked`. `CONNECT` is refused: a tunnel begins behind it. An `Err` says why
-/// they are none.
+/// body ends, as RFC 9112, section 6 has it, with no coding but `chunked`. `CONNECT` is refused: a tunnel begins behind it. An
+/// `Err` says why they are none.
 pub fn read_head(head: &[u8]) -> Result<ParsedHead, BadHead>
     ensures few { IfOk result (λ _. length head.now ≤ 16384) }
     ensures head { IfOk result (λ said. IsHead usual head.now said) }

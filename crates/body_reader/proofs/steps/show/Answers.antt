@@ -28,14 +28,16 @@ returns-in-Ok-eq0 g c slice fits =
     let none : c.in-Ok-eq0.field-0 ≡ 0 = omega (arith, c.in-Ok-eq0.field-0-test) in
     let reads = rw none at c.in-Ok-eq0.ensures in
     show_dry _ _ _ (g.met.C.Coding.lawful _) _ _ c.requires.place _ c.requires.sure (nil_from_length _ (none_held g at))
-    (has_room g at) _ reads.in_order reads.spared slice (omega (arith, fits (nil_from_length _ (none_held g at)), all_room g at)) reads.reads
+    (has_room g at) _ reads.in_order reads.spared slice
+    (omega (arith, fits (nil_from_length _ (none_held g at)), all_room g at)) reads.reads
 
 pub returns-in-Ok : goal.returns-in-Ok
 returns-in-Ok g c slice fits =
     let at = (goal.at.returns-in-Ok g c).After-read_into_buf in
     let reads = c.in-Ok.ensures in
     show_well _ _ _ (g.met.C.Coding.lawful _) _ _ c.requires.place _ c.requires.sure (nil_from_length _ (none_held g at))
-    (has_room g at) _ reads.in_order reads.spared slice (omega (arith, fits (nil_from_length _ (none_held g at)), all_room g at)) _ reads.reads
+    (has_room g at) _ reads.in_order reads.spared slice
+    (omega (arith, fits (nil_from_length _ (none_held g at)), all_room g at)) _ reads.reads
     (omega (arith, c.in-Ok.came-test)) _ (omega (arith, c.min-in-Ok.ensures))
 
 pub returns-in-Err : goal.returns-in-Err
@@ -43,4 +45,5 @@ returns-in-Err g c slice fits =
     let at = (goal.at.returns-in-Err g c).After-read_into_buf in
     let reads = c.in-Err.ensures in
     show_fails _ _ _ (g.met.C.Coding.lawful _) _ _ c.requires.place _ c.requires.sure (nil_from_length _ (none_held g at))
-    (has_room g at) _ reads.in_order reads.spared slice (omega (arith, fits (nil_from_length _ (none_held g at)), all_room g at)) _ reads.reads
+    (has_room g at) _ reads.in_order reads.spared slice
+    (omega (arith, fits (nil_from_length _ (none_held g at)), all_room g at)) _ reads.reads

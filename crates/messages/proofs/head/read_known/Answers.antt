@@ -77,7 +77,15 @@ returns-in-Some-clause-head c =
       head = h;
       reads = reads_whole found.1 c.if-spans-head.false;
       few = omega (arith, c.fields_of.ensures, c.if-spans-fields_of.false, fields_counted found.1 within.section.count_fits);
-      plain = rw (← found.1.method, ← found.1.path, ← minor, ← fields, ← found.1.fields, ← c.of-name.ensures, ← c.of-target.ensures)
+      plain = rw (
+        ← found.1.method,
+        ← found.1.path,
+        ← minor,
+        ← fields,
+        ← found.1.fields,
+        ← c.of-name.ensures,
+        ← c.of-target.ensures,
+      )
           ((c.plain_extent.ensures c.in-Some.extent).0 c.in-Some.is);
       bare = (λ yes. sym kind ∙ c.is_bare.ensures.0 yes, λ is. c.is_bare.ensures.1 (kind ∙ is));
       keeps = c.keeps.ensures ∙ ap (λ n. keeps n known) minor ∙ ap (keeps h.minor) fields;

@@ -29,8 +29,9 @@ latest_of (suc n) out bound few noted =
     inr (sym (noted (omega arith)), omega (arith, length-take-le (suc n) out bound, few))
 
 -- and it was asked for as more of the body is
-asks_on : {R W : Type 0} {remaining : R → Option (List ℕ)} {tells : W → StreamLog} {trace : W → W → Type 0} {b m : InBody R} {t : Unbuffered R} {payload : List ℕ} {len : ℕ}
-    {w u v : Buffered W StdPolicy} (sending : Result (Unit {0}) Error) → Enters usual b → InsideGoes remaining b payload m
+asks_on : {R W : Type 0} {remaining : R → Option (List ℕ)} {tells : W → StreamLog} {trace : W → W → Type 0} {b m : InBody R}
+    {t : Unbuffered R} {payload : List ℕ} {len : ℕ} {w u v : Buffered W StdPolicy}
+    (sending : Result (Unit {0}) Error) → Enters usual b → InsideGoes remaining b payload m
     → len ≡ length (handed_of m.body) → is_large m.said.extent (length m.body.taken) len ≡ false
     → Prompt tells trace (IsAwaited b.said.extent) (stream_in b, w) (Ok tt) (stream_in m, u)
     → Prompt tells trace (GoesOn m) (stream_in m, u) sending (t, v)

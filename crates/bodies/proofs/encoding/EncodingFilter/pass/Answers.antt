@@ -13,14 +13,16 @@ returns-in_err-count g c =
     let e = c.in_err-count.field-0.0 in
     let p = err_from_is_err_and c.from_residual.result c.from_residual.ensures.1 in
     rw (p.1, p.2)
-    (not_passed g.R.TellRead.remaining g.W.Tell.log g.W.TellWrite.trace s c.requires (grind (arith, nat_tests)) c.buffer.ensures.whole c.write.new.self e
+    (not_passed g.R.TellRead.remaining g.W.Tell.log g.W.TellWrite.trace s c.requires (grind (arith, nat_tests))
+    c.buffer.ensures.whole c.write.new.self e
     (rw c.buffer-2.ensures.value at c.in_err-count.ensures.writes))
 
 pub returns : goal.returns
 returns g c =
     let s = c.args.self.now in
     let n = c.in_ok-count.count in
-    passed g.R.TellRead.remaining g.W.Tell.log g.W.TellWrite.trace s c.requires (grind (arith, nat_tests)) c.buffer.ensures.whole c.write.new.self n
+    passed g.R.TellRead.remaining g.W.Tell.log g.W.TellWrite.trace s c.requires (grind (arith, nat_tests))
+    c.buffer.ensures.whole c.write.new.self n
     (rw c.buffer-2.ensures.value at c.in_ok-count.ensures.bound)
     (rw c.buffer-2.ensures.value at c.in_ok-count.ensures.writes)
     c.consume.new.self (ReaderConsumes-along g.R.TellRead.remaining std_read_rules s.source n c.consume.new.self
