@@ -2,9 +2,9 @@
 use Rattle.std.proofs.Common.{◌≡◌, ℕ, ◌+◌, ◌-◌, ◌<◌, ◌≤◌, List, [], ◌∷◌, ◌++◌, length, take, drop, inl, inr, sym, ap, refl, subst, ◌∙◌, arith, append_assoc, append-nil, length-append}
 use Rattle.std.proofs.Math.Seq.{take-append-add}
 use Rattle.std.proofs.lemmas.Bool.{cases_lt}
-use Rattle.std.proofs.lemmas.List.{append_cancel_left, length-take-le, nil_from_length, take-append-drop, take-append-le, take_at}
+use Rattle.std.proofs.lemmas.List.{append_cancel_left, length-take-le, nil_from_length, take-append-drop, take-append-le}
 use Rattle.memchr.specs.Find.{Nowhere, OccursAt}
-use Rattle.buffer_redux.specs.OccursLaws.{OccursAt-behind, OccursAt-fewer, OccursAt-front, OccursAt-last, OccursAt-later, OccursAt-more, OccursAt-self, OccursAt-take}
+use Rattle.buffer_redux.specs.OccursLaws.{OccursAt-behind, OccursAt-fewer, OccursAt-front, OccursAt-last, OccursAt-later, OccursAt-more, OccursAt-one, OccursAt-self, OccursAt-take}
 use Rattle.body_reader.specs.declared.coding.Look.TheVariants as look
 use Rattle.body_reader.specs.declared.until.Part.{Part}
 use Rattle.body_reader.specs.declared.until.Part.TheVariants.{Inside, Behind}
@@ -229,34 +229,6 @@ module _ (needle : List ℕ) (some : 0 < length needle) where
         (front_open shown begins.front.0 begins.front.1 few);
   }
 
-  -- of two bodies that begin the same bytes neither ends first
-  not_first : (a b x y xs ys : List ℕ) → EndsPart needle Inside a x → EndsPart needle Inside b y → a ++ xs ≡ b ++ ys
-      → length y ≤ length x
-  not_first a b x y xs ys p q same = elim (cases_lt (length x) (length y)) [
-    | inr long ↦ long
-    | inl short ↦
-        let here : OccursAt (b ++ ys) needle (length x) =
-        subst (λ l. OccursAt l needle (length x)) same
-        (OccursAt-more a xs needle (length x)
-        (subst (λ l. OccursAt l needle (length x)) (sym p.0) (OccursAt-last x needle))) in
-        absurd (q.1 (length x) (omega arith) short
-        (OccursAt-fewer b ys needle (length x) (omega (arith, short, ap length q.0, length-append y needle)) here))
-  ]
-
-  only_one : (a b x y xs ys : List ℕ) → EndsPart needle Inside a x → EndsPart needle Inside b y → a ++ xs ≡ b ++ ys
-      → (a ≡ b) × (x ≡ y)
-  only_one a b x y xs ys p q same =
-      let len : length y ≡ length x =
-      omega (arith, not_first a b x y xs ys p q same, not_first b a y x ys xs q p (sym same)) in
-      let long : length b ≡ length a =
-      omega (arith, len, ap length p.0, ap length q.0, length-append x needle, length-append y needle) in
-      let equal : a ≡ b =
-      sym (take_at a xs (length a) refl) ∙ ap (take (length a)) same ∙ take_at b ys (length a) long in (
-        equal,
-        sym (take_at x needle (length x) refl) ∙ ap (take (length x)) (sym p.0 ∙ equal ∙ q.0)
-            ∙ take_at y needle (length x) len,
-      )
-
   until_nothing : (place : Part) (payload : List ℕ) → EndsPart needle place [] payload → payload ≡ []
   until_nothing Inside payload c = absurd (omega (arith, some, ap length c.0, length-append payload needle))
   until_nothing Behind payload c = c.1
@@ -283,5 +255,5 @@ module _ (needle : List ℕ) (some : 0 < length needle) where
     reason = λ place shown why other is wrong. absurd wrong;
     stays = λ place shown more why is wrong. wrong;
     sure = λ place n is c. absurd (clear_unsure place n c.some c.carries);
-    one = λ a b x y xs ys p q same. only_one a b x y xs ys p q same;
+    one = λ a b x y xs ys p q same. OccursAt-one needle a b x y xs ys p.0 p.1 q.0 q.1 same;
   }
