@@ -1,7 +1,6 @@
 -- Where a read of a body asks its stream.
 use Rattle.std.proofs.Common.{◌≡◌, ℕ, ◌+◌, ◌<◌, ◌∙◌, List, [], ◌∷◌, ◌++◌, length, take, inl, inr, Option, Result, Ok, Err, ap, subst, arith, append-nil, length-append}
-use Rattle.messages.specs.Names.{body_rules, BodyWent, cases_lt, handed_of, IsBody, IsBodyReader, length-take-le, nil_from_length, NoPayload, none_wrong, Reader, ReadsAlong-stream, ReadsPayload, std_read_rules, TookWholeBody, unbuffered, WhyNone}
-use Rattle.messages.proofs.Unasked.{StreamWent-unasked}
+use Rattle.messages.specs.Names.{body_rules, BodyWent, cases_lt, handed_of, IsBody, IsBodyReader, length-take-le, nil_from_length, none_wrong, NoPayload, Reader, ReadsAlong-stream, ReadsPayload, std_read_rules, StreamWent-unasked, TookWholeBody, unbuffered, WhyNone}
 use Rattle.body_reader.specs.declared.error.BodyError.TheVariants as unread
 use Rattle.messages.specs.MessagesLaws.{body_lawful}
 

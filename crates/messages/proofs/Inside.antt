@@ -1,8 +1,7 @@
 -- What the reader of a body does, told of a reader in one.
 use Rattle.std.proofs.Common.{◌≡◌, ◌↔◌, ◌≤◌, ◌∙◌, ℕ, List, ◌++◌, take, drop, Option, Result, Ok, Err, ap, arith, refl, subst, sym, take-append-drop}
 use Rattle.std.specs.declared.io.Error.{Error}
-use Rattle.messages.specs.Names.{after_read, append_cancel_left, body_answer, body_rules, BodyCoding, BodyWent, handed_of, handed_out, InsideGoes, IsBodyReader, IsDone, IsRoomy, Leads-done, Leads-whole, LeavesPlaces, LeavesRoom, Limits, ParsedHead, Place, Reader, ReadsAlong-stream, ReadsAsIo, ReadsPayload, room_of, Side, std_read_rules, TellsWhy, TookWholeBody, unbuffered, WhyNone}
-use Rattle.messages.proofs.Unasked.{StreamWent-unasked}
+use Rattle.messages.specs.Names.{after_read, append_cancel_left, body_answer, body_rules, BodyCoding, BodyWent, handed_of, handed_out, InsideGoes, IsBodyReader, IsDone, IsRoomy, Leads-done, Leads-whole, LeavesPlaces, LeavesRoom, Limits, ParsedHead, Place, Reader, ReadsAlong-stream, ReadsAsIo, ReadsPayload, room_of, Side, std_read_rules, StreamWent-unasked, TellsWhy, TookWholeBody, unbuffered, WhyNone}
 use Rattle.body_reader.specs.Coding.{heeded}
 use Rattle.body_reader.specs.declared.either.Either.TheVariants as coding
 use Rattle.body_reader.specs.declared.either.Side.TheVariants as side

@@ -2,4 +2,3 @@ pub mod Asking
 pub mod Inside
 mod Rest
 pub mod Spans
-pub mod Unasked

@@ -9,7 +9,7 @@ pub use Rattle.buffer_redux.specs.Block.{Block, Plain, with_limit}
 pub use Rattle.buffer_redux.specs.Policy.{std_read_rules}
 pub use Rattle.buffer_redux.specs.StreamLog.{after_read}
 pub use Rattle.buffer_redux.specs.Unbuffer.{StreamWent, Unbuffered, unbuffered}
-pub use Rattle.buffer_redux.specs.UnbufferLaws.{ReadsAlong-stream, StreamWent-front, StreamWent-joins, StreamWent-none}
+pub use Rattle.buffer_redux.specs.UnbufferLaws.{ReadsAlong-stream, StreamWent-front, StreamWent-joins, StreamWent-none, StreamWent-unasked}
 pub use Rattle.chunked.specs.Coding.{chunked}
 pub use Rattle.chunked.specs.CodingLaws.{chunked_lawful}
 pub use Rattle.chunked.specs.declared.place.Place.{Place}

@@ -1,7 +1,6 @@
 -- The head that the step lent is still buffered, so the body begins behind it; without one none begins there.
 use Rattle.std.proofs.Common.{◌≡◌, ap, false, inl, inr, rules, subst, sym}
-use Rattle.messages.specs.Names.{Begins, heads, left_of, rest, unbuffered}
-use Rattle.messages.proofs.Unasked.{StreamWent-unasked}
+use Rattle.messages.specs.Names.{Begins, heads, left_of, rest, StreamWent-unasked, unbuffered}
 use Rattle.messages.specs.MessagesLaws.{Begun-went, lent_still}
 use Rattle.messages.proofs.requests.Requests.next_buffered.Goals as goal
 
