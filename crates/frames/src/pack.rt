@@ -1,5 +1,6 @@
 //! Lines made frames, over any two streams that tell.
-ghost use Rattle.std.specs.Prelude.{◌≡◌, [], false};
+ghost use Rattle.std.specs.Prelude.{◌≡◌, ◌+◌, ◌*◌, [], false};
+ghost use Rattle.codec.specs.PieceReader.{room_for};
 ghost use Rattle.codec.specs.PieceWriter.{unsent};
 ghost use Rattle.line_reader.specs.LineReader.{IsLineReader};
 ghost use Rattle.frames.specs.Pack.{Packs};
@@ -55,6 +56,8 @@ fn pack_all<R: TellRead, W: TellWrite>(
     requires open { source.skipping ≡ false }
     requires nothing { source.pieces.reader.block.bytes ≡ [] }
     requires empty { unsent target ≡ [] }
+    requires read { source.pieces.reader.block.capacity ≡ room_for 8192 (1 + source.pieces.decoder.max) }
+    requires write { target.writer.block.capacity ≡ 6 * (target.encoder.max + 2) }
     ensures read_room { result.1.pieces.reader.block.capacity ≡ source.pieces.reader.block.capacity }
     ensures write_room { result.2.writer.block.capacity ≡ target.writer.block.capacity }
     ensures packs { Packs source.pieces.decoder.max source.pieces.reader.log result.1.pieces.reader.log target.writer.log

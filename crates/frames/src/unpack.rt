@@ -1,5 +1,6 @@
 //! Payloads printed as lines, over any two streams that tell.
-ghost use Rattle.std.specs.Prelude.{◌≡◌, []};
+ghost use Rattle.std.specs.Prelude.{◌≡◌, ◌+◌, ◌*◌, []};
+ghost use Rattle.codec.specs.PieceReader.{room_for};
 ghost use Rattle.frame_reader.specs.Next.{ReadsFrames};
 ghost use Rattle.frames.specs.Unpack.{Unpacks};
 ghost use Rattle.frames.specs.Unpacking.{IsLineTarget};
@@ -53,6 +54,8 @@ fn unpack_all<R: TellRead, W: TellWrite>(
     requires reads { ReadsFrames source }
     requires nothing { source.reader.block.bytes ≡ [] }
     requires empty { target.block.bytes ≡ [] }
+    requires read { source.reader.block.capacity ≡ room_for 8192 (2 + source.decoder.max) }
+    requires write { target.block.capacity ≡ 3 * (source.decoder.max + 2) }
     ensures read_room { result.1.reader.block.capacity ≡ source.reader.block.capacity }
     ensures write_room { result.2.block.capacity ≡ target.block.capacity }
     ensures unpacks { Unpacks source.decoder.max source.reader.log result.1.reader.log target.log result.2.log result.0 }
