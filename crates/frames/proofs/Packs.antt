@@ -1,5 +1,5 @@
 -- What the calls of a filter of lines do, and what a whole run of `pack` comes to.
-use Rattle.std.proofs.Common.{◌≡◌, ℕ, ◌≤◌, ◌<◌, List, length, true, false, Option, None, Some, Ok, Err, refl, sym, ap, subst, ◌∙◌, arith, ◌^◌, ◌⊎◌, inl, inr, [], ◌∷◌, ◌++◌, Result, append-nil, append_assoc, length-append}
+use Rattle.std.proofs.Common.{◌≡◌, ℕ, ◌+◌, ◌≤◌, ◌<◌, List, length, true, false, Option, None, Some, Ok, Err, refl, sym, ap, subst, ◌∙◌, arith, ◌^◌, ◌⊎◌, inl, inr, [], ◌∷◌, ◌++◌, Result, append-nil, append_assoc, length-append}
 use Rattle.std.proofs.lemmas.Bool.{true≢false}
 use Rattle.std.proofs.lemmas.List.Elements.{All-nil}
 use Rattle.std.specs.Prelude.{IfSome, IsErrAnd, IsOk, MatchResult}
@@ -179,6 +179,7 @@ fronts g (payload ∷ p) next more bytes (inr (last, none)) =
 module _ {R W : Type 0} (remaining : R → Option (List ℕ)) (s t : Packing R W)
     (fresh : (piece_rules remaining (packing {W = W})).fresh s) (unread : s.source.pieces.reader.block.bytes ≡ [])
     (going : s.source.pieces.ended ≡ false)
+    (room : t.source.pieces.reader.block.capacity ≡ room_for 8192 (1 + s.source.pieces.decoder.max))
     (ready : IsReady packing t) where
   abbrev max : ℕ
   max = s.source.pieces.decoder.max
@@ -224,8 +225,8 @@ module _ {R W : Type 0} (remaining : R → Option (List ℕ)) (s t : Packing R W
   )
 
   -- each line had its end
-  some_lines : (Such : List ℕ → Type 0) (p : List (List ℕ)) → Went p p → t.source.pieces.ended ≡ false → AllSent t.target.writer
-      → Such (rest t.source.pieces)
+  abbrev some_lines : (Such : List ℕ → Type 0) (p : List (List ℕ)) → Went p p → t.source.pieces.ended ≡ false
+      → AllSent t.target.writer → Such (rest t.source.pieces)
       → PackedLines Such max s.source.pieces.reader.log t.source.pieces.reader.log s.target.writer.log t.target.writer.log
   some_lines Such p over open' sent such =
       let whole : IsPieces (lined max) over.bytes p [] =
@@ -310,11 +311,12 @@ module _ {R W : Type 0} (remaining : R → Option (List ℕ)) (s t : Packing R W
       → MatchResult answer (λ _. IsOk outcome) (λ stopped. IsErrAnd outcome (IsErrorOf stopped.cause))
       → ForwardAnswers (piece_rules remaining packing) s answer t → Ran outcome
   packed = outcome_ran remaining packing s t fresh unread packing_sound (λ e refused. refused) Ran ended_ran wrong_ran
-      (λ p over open' still sent e failed. (
+      (λ p over open' still offered sent e failed. (
         some_lines (FitsLine max) p over still sent
             (open_unended max (rest t.source.pieces)
             (subst (λ d. IsOpen (lined d.max) (rest t.source.pieces)) over.decoder open')),
         failed,
+        λ empty. offered empty ∙ room,
       ))
       (λ p lost over e failed.
       let ran = first p lost over in (

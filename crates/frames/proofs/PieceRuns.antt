@@ -7,7 +7,7 @@ use Rattle.forward.specs.StreamsLaws.{WriteGaveUp-so}
 use Rattle.forward.specs.declared.error.Cause.{Cause}
 use Rattle.forward.specs.declared.error.Cause.TheVariants as cause
 use Rattle.piece_filter.specs.PieceRuns.{Over, all_over, over_held, over_lost}
-use Rattle.piece_filter.specs.Pieces.{IsCoherent, PiecesEnd, Piecewise, grammar_of, held_of, piece_rules}
+use Rattle.piece_filter.specs.Pieces.{IsCoherent, OfferedWhole, PiecesEnd, Piecewise, grammar_of, held_of, piece_rules}
 use Rattle.piece_filter.specs.PiecesLaws.{none_held}
 use Rattle.frames.specs.Words.{Error, failure_count, Begins, IsOpen, rest, FilterRules, ForwardAnswers, NoneFailed, StopsBy, Stopped, AllSent, OverCount, ReadFailed, WriteGaveUp, RunError}
 use Rattle.frames.specs.Ending.{IsErrorOf}
@@ -38,7 +38,7 @@ module _ {T R D X A W : Type 0} (remaining : R → Option (List ℕ)) (f : Piece
       (wrong : (p : List (List ℕ)) → Went p p → (why : RunError) → f.wrong s why t → AllSent (f.target t) → NoneFailed rules s t
       → Ran (Err why))
       (read : (p : List (List ℕ)) → Went p p → IsOpen (grammar_of f t) (rest (f.source t)) → (f.source t).ended ≡ false
-      → AllSent (f.target t) → (e : Error)
+      → (rest (f.source t) ≡ [] → OfferedWhole (f.source t)) → AllSent (f.target t) → (e : Error)
       → ReadFailed e (rules.read s) (rules.read t) (rules.target s).log (rules.target t).log → Ran (Err (Read e)))
       (write : (p lost : List (List ℕ)) → Went (p ++ lost) p → (e : Error)
       → WriteGaveUp ((lost ≡ []) × ((f.target t).block.bytes ≡ []) × ¬ (Begins (grammar_of f t) (rest (f.source t)))) e
@@ -49,9 +49,9 @@ module _ {T R D X A W : Type 0} (remaining : R → Option (List ℕ)) (f : Piece
     stopped : (count : ℕ) (why : Cause RunError) (e : RunError) → StopsBy rules count s why t → IsErrorOf why e → Ran (Err e)
     stopped count (cause.Wrong why) e (over, (none, end), sent, met) is = subst (λ x. Ran (Err x)) (sym is)
         (wrong over.payloads (all_over remaining f s t fresh unread count over none) why end (sound.all_sent t sent) met)
-    stopped count (cause.Read fault) e (over, (none, open', going), sent, again, failed) is = subst (λ x. Ran (Err x)) (sym is)
-        (read over.payloads (all_over remaining f s t fresh unread count over none) open' going (sound.all_sent t sent)
-        fault failed)
+    stopped count (cause.Read fault) e (over, (none, open', going, whole), sent, again, failed) is =
+        subst (λ x. Ran (Err x)) (sym is) (read over.payloads (all_over remaining f s t fresh unread count over none) open' going
+        whole (sound.all_sent t sent) fault failed)
     stopped count (cause.Write fault) e (first, inr refused) is = absurd (never fault refused.1)
     stopped count (cause.Write fault) e (first, inl failed) is = subst (λ x. Ran (Err x)) (sym is)
         (write first.payloads (first.lost ++ held_of f t) (over_lost remaining f s t fresh unread count first) fault

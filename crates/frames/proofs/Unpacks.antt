@@ -18,7 +18,7 @@ use Rattle.piece_filter.specs.PieceRuns.{Over, all_received}
 use Rattle.piece_filter.specs.Pieces.{HasEnded, IsReady, Keeps, piece_rules}
 use Rattle.piece_filter.specs.PiecesCalls as pieces
 use Rattle.piece_filter.specs.PiecesLaws.{coded_all}
-use Rattle.frames.specs.Words.{All, AllSent, FilterAsks, Begins, bytes_at, Error, error_kind, Fits, ForwardAnswers, framed, frames, GaveNothing, IsCutShort, IsLent, IsOpen, MetNoFault, RanDry, ReaderState, rest, RunError, Span, Stopped, StreamLog, with_newline, with_newlines}
+use Rattle.frames.specs.Words.{All, AllSent, FilterAsks, Begins, bytes_at, Error, error_kind, Fits, ForwardAnswers, framed, frames, GaveNothing, IsCutShort, IsLent, IsOpen, MetNoFault, RanDry, ReaderState, rest, room_for, RunError, Span, Stopped, StreamLog, with_newline, with_newlines}
 use Rattle.frames.specs.Ending.{IsErrorOf}
 use Rattle.frames.specs.Unpack.{IsDue, Unpacked, UnpackedFirst, UnpackRan, Unpacks}
 use Rattle.frames.specs.Unpacking.{unpacking}
@@ -114,7 +114,7 @@ module _ {R W : Type 0} (remaining : R → Option (List ℕ)) {s : Unpacking R W
 -- from empty buffers on
 module _ {R W : Type 0} (remaining : R → Option (List ℕ)) (s t : Unpacking R W)
     (fresh : (piece_rules remaining (unpacking {W = W})).fresh s) (unread : s.source.reader.block.bytes ≡ [])
-    (told : s.source.ended ≡ false)
+    (told : s.source.ended ≡ false) (room : t.source.reader.block.capacity ≡ room_for 8192 (2 + s.source.decoder.max))
     (ready : IsReady unpacking t) where
   abbrev max : ℕ
   max = s.source.decoder.max
@@ -184,13 +184,15 @@ module _ {R W : Type 0} (remaining : R → Option (List ℕ)) (s t : Unpacking R
         subst (Unpacked max s.source.reader.log t.source.reader.log s.target.log t.target.log) end.0 (unpacked p over sent),
         dry end.1,
         met,
+        elim end.3 [ inl ended ↦ absurd (true≢false (sym ended ∙ ready.also.told)) | inr whole ↦ whole ∙ room ],
       ))
       wrong_ran
-      (λ p over open' still sent e failed. (
+      (λ p over open' still offered sent e failed. (
         rest t.source,
         unpacked p over sent,
         subst (λ d. IsOpen (framed d.max) (rest t.source)) over.decoder open',
         failed,
+        λ empty. offered empty ∙ room,
       ))
       (λ p lost over e failed. (
         first p lost over,

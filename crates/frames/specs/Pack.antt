@@ -1,7 +1,7 @@
 -- What a run of `pack` moves from a reader to a writer.
-use Rattle.std.specs.Prelude.{◌≡◌, ℕ, ◌⊎◌, List, [], ◌++◌, length, Result, Ok, Err}
+use Rattle.std.specs.Prelude.{◌≡◌, ℕ, ◌+◌, ◌⊎◌, List, [], ◌++◌, length, Result, Ok, Err}
 use Rattle.line_reader.specs.Lines.{BeginsTooLong}
-use Rattle.frames.specs.Words.{failure_count, All, StreamLog, Begins, lined, Fits, frames, FitsLine, IsLine, HasLines, with_newlines, RunError, RunsPromptly, MetNoFault, ReadFailed as AReadFailed, WriteGaveUp, OverCount, RefusedBeforeCalls, GaveNothing, ReceivedFlushed}
+use Rattle.frames.specs.Words.{failure_count, All, StreamLog, Begins, lined, Fits, frames, FitsLine, IsLine, HasLines, with_newlines, RunError, RunsPromptly, MetNoFault, ReadFailed as AReadFailed, WriteGaveUp, OverCount, RefusedBeforeCalls, GaveNothing, ReceivedFlushed, room_for}
 use Rattle.frames.specs.declared.error.RunError.TheVariants.{TooLong, Truncated, Read, Write, Io}
 
 -- what is due of these bytes: the frames of all whole lines in them
@@ -45,8 +45,8 @@ abbrev pub NoLineLeft : {most : ℕ} {read read' written written' : StreamLog} �
 NoLineLeft {most} first = (first.unsent ≡ []) × ¬ (Begins (lined most) first.more)
 
 -- what a run of `pack` did: at Ok all that was given is a text of lines that fit, and all their frames were received and flushed.
--- Where a read failed no line that came is lost. Any other fault is a writer's, or a buffer was refused
--- before the run began, or it ended at its count
+-- Where a read failed no line that came is lost, and the last ask was for the whole buffer if no line was begun. Any other fault
+-- is a writer's, or a buffer was refused before the run began, or it ended at its count
 abbrev pub PackRan : ℕ → StreamLog → StreamLog → StreamLog → StreamLog → Result (Unit {0}) RunError → Type 0
 PackRan most read read' written written' (Ok _) =
     (all : PackedFirst most read read' written written') × (all.more ≡ []) × (all.unsent ≡ []) × GaveNothing read read'
@@ -55,7 +55,8 @@ PackRan most read read' written written' (Err TooLong) =
     PackedLines (BeginsTooLong most) most read read' written written' × MetNoFault read read' written written'
 PackRan most read read' written written' (Err Truncated) = ⊥
 PackRan most read read' written written' (Err (Read e)) =
-    PackedLines (FitsLine most) most read read' written written' × AReadFailed e read read' written written'
+    (all : PackedLines (FitsLine most) most read read' written written') × AReadFailed e read read' written written'
+    × (all.more ≡ [] → read'.reads.offer ≡ room_for 8192 (1 + most))
 PackRan most read read' written written' (Err (Write e)) =
     (first : PackedFirst most read read' written written') × WriteGaveUp (NoLineLeft first) e read read' written written'
 PackRan most read read' written written' (Err (Io e)) =

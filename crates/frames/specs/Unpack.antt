@@ -1,7 +1,7 @@
 -- What a run of `unpack` moves from a reader to a writer.
-use Rattle.std.specs.Prelude.{◌≡◌, ℕ, List, [], ◌++◌, length, ◌⊎◌, Result, Ok, Err}
+use Rattle.std.specs.Prelude.{◌≡◌, ℕ, ◌+◌, List, [], ◌++◌, length, ◌⊎◌, Result, Ok, Err}
 use Rattle.frame_reader.specs.Frames.{BeginsAbove}
-use Rattle.frames.specs.Words.{failure_count, All, StreamLog, Begins, IsOpen, SplitsIntoFrames, framed, Fits, IsCutShort, frames, RunError, with_newlines, RunsPromptly, MetNoFault, ReadFailed as AReadFailed, WriteGaveUp, OverCount, RefusedBeforeCalls, GaveNothing, ReceivedFlushed}
+use Rattle.frames.specs.Words.{failure_count, All, StreamLog, Begins, IsOpen, SplitsIntoFrames, framed, Fits, IsCutShort, frames, RunError, with_newlines, RunsPromptly, MetNoFault, ReadFailed as AReadFailed, WriteGaveUp, OverCount, RefusedBeforeCalls, GaveNothing, ReceivedFlushed, room_for}
 use Rattle.frames.specs.declared.error.RunError.TheVariants.{TooLong, Truncated, Read, Write, Io}
 
 -- what is due of these bytes: the payloads of all whole frames in them, as lines
@@ -36,11 +36,12 @@ abbrev pub NoFrameLeft : {most : ℕ} {read read' written written' : StreamLog} 
 NoFrameLeft {most} first = (first.lost ≡ []) × (first.unsent ≡ []) × ¬ (Begins (framed most) first.more)
 
 -- what a run of `unpack` did: at Ok all that was given is frames, and else some bytes behind them aren't. Where a read failed
--- no payload that came is lost. Any other fault is a writer's, or a buffer was refused before the run began, or it ended at its
--- count
+-- no payload that came is lost. In both the last ask was for the whole buffer if no frame was begun. Any other fault is a
+-- writer's, or a buffer was refused before the run began, or it ended at its count
 abbrev pub UnpackRan : ℕ → StreamLog → StreamLog → StreamLog → StreamLog → Result (Unit {0}) RunError → Type 0
 UnpackRan most read read' written written' (Ok _) =
     Unpacked most read read' written written' [] × GaveNothing read read' × MetNoFault read read' written written'
+    × (read'.reads.offer ≡ room_for 8192 (2 + most))
 UnpackRan most read read' written written' (Err TooLong) =
     (more : List ℕ) × Unpacked most read read' written written' more × BeginsAbove most more
     × MetNoFault read read' written written'
@@ -49,7 +50,7 @@ UnpackRan most read read' written written' (Err Truncated) =
     × MetNoFault read read' written written'
 UnpackRan most read read' written written' (Err (Read e)) =
     (more : List ℕ) × Unpacked most read read' written written' more × IsOpen (framed most) more
-    × AReadFailed e read read' written written'
+    × AReadFailed e read read' written written' × (more ≡ [] → read'.reads.offer ≡ room_for 8192 (2 + most))
 UnpackRan most read read' written written' (Err (Write e)) =
     (first : UnpackedFirst most read read' written written') × WriteGaveUp (NoFrameLeft first) e read read' written written'
 UnpackRan most read read' written written' (Err (Io e)) =

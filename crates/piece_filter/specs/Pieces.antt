@@ -63,6 +63,10 @@ pub record StaysSeen {R D X : Type 0} (g : Grammar X) (s t : ReaderState R D) : 
   pub stays : s.seen ≤ t.seen
   pub all : IsOpen g (rest s) → length (rest s) ≤ t.seen
 
+-- the last ask was for the whole buffer
+abbrev pub OfferedWhole : {R D : Type 0} → ReaderState R D → Type 0
+OfferedWhole m = m.reader.log.reads.offer ≡ m.reader.block.capacity
+
 -- the bytes are pieces with these payloads, the last of which may be one only since the stream ended
 abbrev pub IsText : {X : Type 0} → Grammar X → List ℕ → List (List ℕ) → Bool → Type 0
 IsText g bytes payloads ended = IsPieces g bytes payloads [] ⊎ (HasPieces g bytes payloads × (ended ≡ true))
@@ -84,11 +88,12 @@ module _ {T R D X A W E : Type 0} (f : Piecewise T R D X A W E) where
   abbrev pub HasEnded : T → Type 0
   HasEnded s = (f.source s).ended ≡ true
 
-  -- how payloads end: nothing is left, and the reader gave no more; or what comes next is wrong
+  -- how payloads end: nothing is left, and the reader gave no more, asked for the whole buffer unless a last piece was there; or
+  -- what comes next is wrong
   abbrev pub PiecesEnd : T → Result (Unit {0}) E → T → Type 0
   PiecesEnd s (Ok _) t =
       (rest (f.source t) ≡ []) × (HasEnded s ⊎ RanDry (f.source s).reader (f.source t).reader)
-      × (empty_reads (f.source s).reader ≤ empty_reads (f.source t).reader)
+      × (empty_reads (f.source s).reader ≤ empty_reads (f.source t).reader) × (HasEnded t ⊎ OfferedWhole (f.source t))
   PiecesEnd s (Err why) t = f.wrong s why t
 
   -- what is wrong stays so; what is due of whole pieces is what becomes of them; and what is known to be sent was
@@ -141,7 +146,8 @@ module _ {T R D X A W E : Type 0} (remaining : R → Option (List ℕ)) (f : Pie
     has = λ s. ¬ (f.held s ≡ None);
     lacks = λ s. (f.held s ≡ None) × ¬ (Begins (grammar_of f s) (rest (f.source s)));
     waits = λ s.
-        (f.held s ≡ None) × IsOpen (grammar_of f s) (rest (f.source s)) × ((f.source s).ended ≡ false);
+        (f.held s ≡ None) × IsOpen (grammar_of f s) (rest (f.source s)) × ((f.source s).ended ≡ false)
+        × (rest (f.source s) ≡ [] → OfferedWhole (f.source s));
     sent = f.sent;
     spare = 0;
     rounds = λ s. by_kind (f.target s).block.kind 0 4095;

@@ -24,7 +24,7 @@ use Rattle.programs.specs.Streams.{AllSent}
 use Rattle.programs.specs.TakenIn.{TakesAll, taken_more, target_of}
 use Rattle.programs.specs.TargetLaws.{TakesAll-not_passed, TakesAll-passed, WasFlushed-sent, WasFlushed-writes, nothing_passed}
 use Rattle.piece_filter.specs.Pieces.{CanShow, HandsPieces, HasEnded, IsReady, Keeps, Piecewise, TakesReplies, grammar_of, held_at, held_of, piece_rules}
-use Rattle.piece_filter.specs.PiecesLaws.{answers_one, gave_but_failed, hands_nothing, hands_one, none_held, open_piece, still_seen, takes_none, takes_nothing}
+use Rattle.piece_filter.specs.PiecesLaws.{answers_one, gave_but_failed, hands_nothing, hands_one, none_held, offered_at_end, offered_at_fault, open_piece, still_seen, takes_none, takes_nothing}
 
 -- there is no place
 pub not_held : (h : Option Span) → ((span : Span) → ¬ (h ≡ Some span)) → h ≡ None
@@ -331,7 +331,7 @@ module _ {T R D X A W E : Type 0} (remaining : R → Option (List ℕ)) (f : Pie
               length-append (rest (f.source s)) next.went.hands.got,
               length-append next.bytes (rest (f.source t)),
             )) (Ok false) tt
-            ((none, (a.1, inr (omega (arith, met)), omega (arith, met))), a.2)
+            ((none, (a.1, inr (omega (arith, met)), omega (arith, met), inr (offered_at_end next going))), a.2)
 
         pub asked_wrong : (e : X) → NextGives (Err (Why.Wrong e)) → (why : E) → f.wrong s why t
             → FilterAsks rules s (Err (Wrong why)) t
@@ -349,8 +349,9 @@ module _ {T R D X A W E : Type 0} (remaining : R → Option (List ℕ)) (f : Pie
               → FilterAsks rules s answer t
           failed answer looks answers =
               let a = next.answers in
+              let is_open = subst (λ d. IsOpen (f.grammar d) (rest (f.source t))) (sym next.went.decoder) a.1 in
               asked_nothing (Err (Why.Io e)) next a.0 a.3 (omega (arith, a.4)) next.looked.stays answer looks (answers
-              (none, subst (λ d. IsOpen (f.grammar d) (rest (f.source t))) (sym next.went.decoder) a.1, a.3) a.2
+              (none, is_open, a.3, offered_at_fault e next) a.2
               (inl (record {
                 zero_reads = a.4;
                 give = gave_but_failed (IsOpen (grammar_of f s)) (f.source s) (f.source t) e next.asked a.2;
@@ -394,5 +395,5 @@ asked_ended remaining f {s} ready lacks ended = record {
   asks = (inl refl, ReadLogGrows-none (f.source s).reader.log.reads);
   once = record { once = omega arith; quiet = λ closed. refl; closed = λ closed. closed };
   looks = tt;
-  answers = ((lacks, (ready.whole.ended ended, inl ended, omega arith)), refl);
+  answers = ((lacks, (ready.whole.ended ended, inl ended, omega arith, inl ended)), refl);
 }

@@ -13,12 +13,13 @@ use Rattle.piece_reader.specs.NextPiece.{AskedUnlessEnded, Faulted, NextPiece, P
 use Rattle.piece_reader.specs.NextPieceLaws.{MetEnd-once}
 use Rattle.piece_reader.specs.PieceReader.{ReaderState, left_of, rest}
 use Rattle.piece_reader.specs.PiecesWentLaws.{PiecesWent-joins, PiecesWent-none, drop_none}
+use Rattle.piece_reader.specs.declared.error.NextError.TheVariants as Why
 use Rattle.piece_reader.specs.Texts.{HasPieces, IsPieces, StartsWith}
 use Rattle.forward.specs.Filter.{AsksSent, FilterRules, IsLawful, Moves, StaysOpen}
 use Rattle.forward.specs.Prompt.{AskedLast, AsksGiveOrFail}
 use Rattle.forward.specs.PromptLaws.{AskedLast-after}
 use Rattle.programs.specs.TakenIn.{sent_all, taken_more}
-use Rattle.piece_filter.specs.Pieces.{AnswersAll, HandsPieces, IsCoherent, IsText, PiecesEnd, Piecewise, TakesReplies, grammar_of, held_at, held_of, piece_rules, StaysSeen}
+use Rattle.piece_filter.specs.Pieces.{AnswersAll, HandsPieces, IsCoherent, IsText, OfferedWhole, PiecesEnd, Piecewise, TakesReplies, grammar_of, held_at, held_of, piece_rules, StaysSeen}
 
 -- from an empty buffer on, what was given is what was handed out, and what is left
 pub given_since : {S D : Type 0} (s t : ReaderState S D) (bytes : List ℕ) → s.reader.block.bytes ≡ []
@@ -32,6 +33,43 @@ pub open_piece : {X : Type 0} (none : NextAnswer X) (ended : Bool) (payload : Li
     → (ended ≡ true → Ok (Some payload) ≡ none) → ended ≡ false
 open_piece none true payload is told = (let odd : Ok (Some payload) ≡ none = told refl in cc)
 open_piece none false payload is told = refl
+
+-- an ask behind which nothing is left, and that handed nothing out, was for the whole buffer: at the end, and where one failed
+module _ {R D X : Type 0} {remaining : R → Option (List ℕ)} {g : Grammar X} {s t : ReaderState R D} where
+  offered_whole : (found : NextAnswer X) (next : NextPiece remaining g s found t) → next.bytes ≡ [] → rest t ≡ []
+      → ¬ (t.reader.log ≡ s.reader.log) → OfferedWhole t
+  offered_whole found next none empty asked = elim next.offered [
+    | inl same ↦ absurd (asked same)
+    | inr over ↦
+        let given = s.reader.log.reads.given in
+        let hands = next.went.hands in
+        over.such.1 (nil_from_length (rest s ++ over.came) (omega (
+          arith,
+          ap length none,
+          ap length empty,
+          ap length hands.equal,
+          ap length hands.given,
+          ap length over.given,
+          length-append next.bytes (rest t),
+          length-append (rest s) hands.got,
+          length-append (rest s) over.came,
+          length-append given hands.got,
+          length-append given (over.came ++ t.reader.log.reads.latest),
+          length-append over.came t.reader.log.reads.latest,
+        ))) ∙ sym next.went.capacity
+  ]
+
+  pub offered_at_end : NextPiece remaining g s (Ok None) t → s.ended ≡ false → OfferedWhole t
+  offered_at_end next going =
+      let a = next.answers in
+      offered_whole (Ok None) next a.0 a.1
+      (λ same. omega (arith, MetEnd-once s t going a.4, ap (λ l. l.reads.zero_reads) same))
+
+  pub offered_at_fault : (e : Error) → NextPiece remaining g s (Err (Why.Io e)) t → rest t ≡ [] → OfferedWhole t
+  offered_at_fault e next empty =
+      let met = length-append s.reader.log.reads.faults (e ∷ []) in
+      offered_whole (Err (Why.Io e)) next next.answers.0 empty
+      (λ same. omega (arith, ap length next.answers.2, met, ap (λ l. length l.reads.faults) same))
 
 -- what was looked at stays so
 pub still_seen : {R D X : Type 0} {g : Grammar X} {s t : ReaderState R D} → StaysLooked g s t → StaysSeen g s t
@@ -244,6 +282,7 @@ module _ {T R D X A W E : Type 0} (remaining : R → Option (List ℕ)) (f : Pie
         | inr dry ↦ inr (omega (arith, dry, h.went.grows.zero_reads))
       ],
       omega (arith, end.2, h.went.grows.zero_reads),
+      end.3,
     )
     ends_after a b c p (Err why) h end = sound.wrong_after a b c why h.went.grows.zero_reads end
 

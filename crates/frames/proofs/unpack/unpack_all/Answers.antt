@@ -1,5 +1,5 @@
 -- From empty buffers on, what `forward` says of payloads is what the two logs say of frames and lines.
-use Rattle.std.proofs.Common.{[], None, refl, subst}
+use Rattle.std.proofs.Common.{[], None, refl, subst, ◌∙◌}
 use Rattle.forward.specs.Forward.{Forwards}
 use Rattle.piece_filter.specs.PieceRuns.{rooms_kept, runs_unread}
 use Rattle.piece_filter.specs.Pieces.{piece_rules}
@@ -23,8 +23,8 @@ returns g c =
       read_room = rooms.0;
       write_room = rooms.1;
       unpacks = record {
-        ran = unpacked_all remaining first t.filter (c.requires.empty, refl) c.requires.nothing c.requires.reads.told over.ready
-            answer c.outcome.result c.outcome.ensures over.answers;
+        ran = unpacked_all remaining first t.filter (c.requires.empty, refl) c.requires.nothing c.requires.reads.told
+            (rooms.0 ∙ c.requires.read) over.ready answer c.outcome.result c.outcome.ensures over.answers;
         promptly = rw (outcome_count answer c.outcome.result c.outcome.ensures)
             at (runs_unread remaining unpacking (record { filter = first; states = [] }) t answer c.requires.nothing over);
       };
