@@ -1,7 +1,9 @@
 -- What the calls of a filter of frames do, and what a whole run of `unpack` comes to.
-use Rattle.std.proofs.Common.{◌≡◌, ℕ, ◌+◌, ◌≤◌, ◌<◌, ◌⊎◌, inl, inr, true, false, List, [], length, Option, None, Some, Ok, Err, refl, sym, ap, subst, ◌∙◌, arith, ◌++◌, Result, append-nil}
+use Rattle.std.proofs.Common.{◌≡◌, ℕ, ◌+◌, ◌≤◌, ◌<◌, ◌⊎◌, inl, inr, true, false, List, [], length, Option, None, Some, Ok, Err, refl, sym, ap, subst, ◌∙◌, arith, ◌++◌, Result, append-nil, append_assoc}
 use Rattle.std.proofs.lemmas.Bool.{true≢false}
-use Rattle.std.proofs.lemmas.List.Elements.{All-nil}
+use Rattle.std.proofs.Math.Seq.{take-append_seam}
+use Rattle.std.proofs.lemmas.List.Concat.{flat_map-append}
+use Rattle.std.proofs.lemmas.List.Elements.{All-nil, All-take}
 use Rattle.std.specs.Prelude.{IsErrAnd, IsOk, MatchResult}
 use Rattle.std.specs.declared.io.ErrorKind.TheVariants.{OutOfMemory}
 use Rattle.codec.specs.NextPieceLaws.{MetEnd-once}
@@ -163,16 +165,15 @@ module _ {R W : Type 0} (remaining : R → Option (List ℕ)) (s t : Unpacking R
   dry (inl before) = absurd (true≢false (sym before ∙ told))
   dry (inr ran) = ran
 
-  -- some were lost, also one that is held
+  -- some were lost, also one that is held: their frames are among what follows
   abbrev first : (p lost : List (List ℕ)) → Went (p ++ lost) p
       → UnpackedFirst max s.source.reader.log t.source.reader.log s.target.log t.target.log
   first p lost over = record {
     lines = p;
-    lost = lost;
-    more = rest t.source;
+    more = frames lost ++ rest t.source;
     unsent = t.target.block.bytes;
-    fit = (whole (p ++ lost) p over).1;
-    given = over.given ∙ ap (λ l. s.source.reader.log.reads.given ++ (l ++ rest t.source)) (whole (p ++ lost) p over).0;
+    fit = rw take-append_seam at (All-take (Fits max) (length p) (p ++ lost) (whole (p ++ lost) p over).1);
+    given = rw ((whole (p ++ lost) p over).0, flat_map-append, append_assoc) at over.given;
     received = over.received ∙ replied (p ++ lost) p over;
   }
 
@@ -197,9 +198,9 @@ module _ {R W : Type 0} (remaining : R → Option (List ℕ)) (s t : Unpacking R
       (λ p lost over e failed. (
         first p lost over,
         WriteGaveUp-so (λ none. (
-          none.0,
           none.1,
-          subst (λ d. ¬ (Begins (framed d.max) (rest t.source))) over.decoder none.2,
+          subst (λ l. ¬ (Begins (framed max) (frames l ++ rest t.source))) (sym none.0)
+              (subst (λ d. ¬ (Begins (framed d.max) (rest t.source))) over.decoder none.2),
         )) failed,
       ))
       (λ p lost over e much. (first p lost over, inl much))
@@ -211,7 +212,6 @@ unpack_refused most read written e memory = record {
   ran = (
     record {
       lines = [];
-      lost = [];
       more = [];
       unsent = [];
       fit = All-nil (Fits most);

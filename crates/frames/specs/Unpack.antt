@@ -23,17 +23,16 @@ pub record Unpacked (most : ℕ) (read read' written written' : StreamLog) (more
 -- what was received is a beginning of the lines of payloads whose frames were given
 pub record UnpackedFirst (most : ℕ) (read read' written written' : StreamLog) : Type 0 where
   pub lines : List (List ℕ)
-  pub lost : List (List ℕ)
   pub more : List ℕ
   pub unsent : List ℕ
-  pub fit : All (Fits most) (lines ++ lost)
-  pub given : read'.reads.given ≡ read.reads.given ++ (frames (lines ++ lost) ++ more)
+  pub fit : All (Fits most) lines
+  pub given : read'.reads.given ≡ read.reads.given ++ (frames lines ++ more)
   pub received : written'.writes.received ++ unsent ≡ written.writes.received ++ with_newlines lines
 
--- the lines of all payloads were received: none is lost or unsent, and what follows begins with no whole frame
+-- the lines of all payloads were received: none is unsent, and what follows begins with no whole frame
 abbrev pub NoFrameLeft : {most : ℕ} {read read' written written' : StreamLog} → UnpackedFirst most read read' written written'
     → Type 0
-NoFrameLeft {most} first = (first.lost ≡ []) × (first.unsent ≡ []) × ¬ (Begins (framed most) first.more)
+NoFrameLeft {most} first = (first.unsent ≡ []) × ¬ (Begins (framed most) first.more)
 
 -- what a run of `unpack` did: at Ok all that was given is frames, and else some bytes behind them aren't. Where a read failed
 -- no payload that came is lost. In both the last ask was for the whole buffer if no frame was begun. Any other fault is a
