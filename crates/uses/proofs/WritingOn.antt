@@ -50,7 +50,8 @@ module _ {S P : Type 0} (tells : S → StreamLog) (trace : S → S → Type 0) (
       (answer : Result (Unit {0}) Error) → WroteOn s a (Ok x) m → WroteOn m b answer t → WroteOn s (a ++ b) answer t
   wrote_then joins s m t a b x answer p q = record {
     front = FrontAlong-after tells trace rules joins s m t a b answer p.front q.front;
-    caused = λ steady. stopped_later _ _ _ answer p.front.grows (q.caused (ap (λ c. c.steady) p.front.claims ∙ steady));
+    caused = λ steady. stopped_later s.log.writes m.log.writes t.log.writes answer p.front.grows
+        (q.caused (ap (λ c. c.steady) p.front.claims ∙ steady));
     flushes = q.flushes ∙ p.flushes;
     capacity = λ leaves. q.capacity leaves ∙ p.capacity leaves;
     went = InnerWent-joins tells trace joins s m t p.went q.went;
