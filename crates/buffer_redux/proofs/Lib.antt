@@ -12,6 +12,7 @@ pub mod WriteTelling
 pub mod SeekTelling
 pub mod WriteOn
 pub mod WriteAllCauses
+pub mod WriteAllCounts
 pub mod WriteAll
 pub mod TextPieces
 pub mod ReadAll

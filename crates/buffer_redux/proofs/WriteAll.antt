@@ -134,8 +134,6 @@ module _ {S P : Type 0} (tells : S → StreamLog) (trace : S → S → Type 0)
 
       pub ended_failed : (e : Error) → EndsBy WriteZero answer e → WritesAll tells trace rules s bs (Err e) t
       ended_failed e ends =
-          let some : 0 < length (drop at bs) = omega (arith, fewer, length-drop at bs) in
-          let keeps = begun.keeps in
           record {
             turns = turns;
             count = at;
@@ -145,10 +143,9 @@ module _ {S P : Type 0} (tells : S → StreamLog) (trace : S → S → Type 0)
             first = before.front;
             front = subst (λ l. TookFront tells trace rules s l t)
                 (ap (λ l. take at bs ++ l) (none_taken WriteZero answer e ends (drop at bs)) ∙ append-nil (take at bs)) both;
-            ended = record { some = some; answer = answer; ends = ends; row = row };
-            caused = turn_caused rules (drop at bs) e s row.last t some answer ends row.went.steps keeps.grows;
-            steadily = λ steady. turn_steady rules (drop at bs) e s row.last t some answer ends row.went.steps keeps.grows
-                (ap (λ c. c.steady) keeps.claims ∙ steady);
+            ended = record { some = omega (arith, fewer, length-drop at bs); answer = answer; ends = ends; row = row };
+            caused = turn_caused tells trace rules bs at e s row.last t fewer begun answer ends row.went.steps;
+            steadily = turn_steady tells trace rules bs at e s row.last t fewer begun answer ends row.went.steps;
           }
 
     pub turned_more : (n : ℕ) (t : Buffered S P) → at < length bs

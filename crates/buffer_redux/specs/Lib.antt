@@ -16,6 +16,7 @@ pub use Rattle.redux_buffer.specs.Retried
 pub use Rattle.redux_buffer.specs.StreamLog
 pub use Rattle.redux_buffer.specs.Told
 pub use Rattle.redux_buffer.specs.Transfer
+pub use Rattle.redux_buffer.specs.TransferLaws
 pub mod OccursLaws
 pub mod Policy
 pub mod MinBuffered

@@ -11,7 +11,7 @@ use Rattle.buffer_redux.specs.Buffered.{Buffered}
 use Rattle.buffer_redux.specs.BufWriter.{AllAlong, WritesAlong}
 use Rattle.buffer_redux.specs.LineWriter.{SendsLines, ThenSendsLines}
 use Rattle.buffer_redux.specs.ReadUntil.{Lacks}
-use Rattle.buffer_redux.specs.WritesAlongLaws.{AllAlong-after, WasSent-along, WasSent-all, WritesAlong-none, WritesAlong-then}
+use Rattle.buffer_redux.specs.WritesAlongLaws.{AllAlong-after, WasSent-along, WasSent-all, WritesAlong-none}
 
 -- a line feed is among the bytes, or not
 pub lacks_or : (bytes : List ℕ) → Lacks 10 bytes ⊎ ¬ (Lacks 10 bytes)
@@ -46,12 +46,6 @@ module _ {S P : Type 0} (tells : S → StreamLog) (trace : S → S → Type 0) (
   module _ (s : Buffered S P) (answer : Result (Unit {0}) Error) (t : Buffered S P) where
     abbrev Ended : Result (Unit {0}) Error → Buffered S P → Type 0
     Ended writing m = MatchResult writing (λ _. SendsLines tells trace m answer t) (λ e. (answer ≡ Err e) × (t ≡ m))
-
-    ended_along : (bytes : List ℕ) (writing : Result (Unit {0}) Error) (m : Buffered S P) → Ended writing m
-        → WritesAlong tells trace rules s bytes m → WritesAlong tells trace rules s bytes t
-    ended_along bytes (Ok x) m sends along =
-        WritesAlong-then tells trace rules joins s m t bytes along (SendsLines-along m answer t sends)
-    ended_along bytes (Err e) m (is, same) along = subst (WritesAlong tells trace rules s bytes) (sym same) along
 
     ended_all : (bytes : List ℕ) (writing : Result (Unit {0}) Error) (m : Buffered S P) → Ended writing m
         → AllAlong tells trace rules s bytes writing m → AllAlong tells trace rules s bytes answer t

@@ -62,6 +62,18 @@ abbrev pub FoundNoSpace : {S P : Type 0} → WriteRules P → Buffered S P → L
 FoundNoSpace rules m rest e t =
     (error_kind e ≡ WriteZero) × (wrote : Wrote rules m rest 0 t) × NoSpace m (length rest) wrote.before
 
+-- why a write of all bytes failed: the inner writer's error ended it; or, where just some first bytes had been taken in, the
+-- policy refused the write of those that were left, or that found no space, and the policy's answer made none
+abbrev pub WriteAllErrorCaused : {S P : Type 0} → (S → StreamLog) → (S → S → Type 0) → WriteRules P → Buffered S P → List ℕ
+    → Error → Buffered S P → Type 0
+WriteAllErrorCaused {S} {P} tells trace rules s bs e t = WriterStopped s.log.writes t.log.writes e ⊎ record {
+  count : ℕ;
+  fewer : count < length bs;
+  before : Buffered S P;
+  begun : TookFront tells trace rules s (take count bs) before;
+  why : WriteRefused rules before (drop count bs) e t ⊎ FoundNoSpace rules before (drop count bs) e t;
+}
+
 -- what `write_all(bs)` does: turns took the first `count` bytes in. At `Ok` these are all; at `Err` one more ended it, which
 -- took nothing in
 pub record WritesAll {S P : Type 0} (tells : S → StreamLog) (trace : S → S → Type 0) (rules : WriteRules P)
@@ -75,10 +87,7 @@ pub record WritesAll {S P : Type 0} (tells : S → StreamLog) (trace : S → S �
   pub front : TookFront tells trace rules s (take count bs) t
   pub ended : MatchResult answer (λ _. (count ≡ length bs) × (t ≡ last))
       (λ e. LastTurnFailed tells trace rules (drop count bs) e last t)
-  -- an error is the inner writer's; or the policy's answer to the last write; or `WriteZero`, where there was no space and the
-  -- policy's answer made none
-  pub caused : IfErr answer (λ e. WriterStopped s.log.writes t.log.writes e
-      ⊎ ((m : Buffered S P) × (WriteRefused rules m (drop count bs) e t ⊎ FoundNoSpace rules m (drop count bs) e t)))
+  pub caused : IfErr answer (λ e. WriteAllErrorCaused tells trace rules s bs e t)
   -- under a steady policy it is the inner writer's
   pub steadily : (rules.claims s.policy).steady ≡ true → IfErr answer (WriterStopped s.log.writes t.log.writes)
 

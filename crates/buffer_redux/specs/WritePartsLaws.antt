@@ -1,10 +1,9 @@
 -- Laws of what is copied into a writer where it fits, and of a write of parts.
 use Rattle.std.specs.Prelude.{◌≡◌, ◌⊎◌, List, ℕ, [], ◌++◌, length, Result, Ok, Err, MatchResult}
-use Rattle.std.proofs.Common.{refl, sym, ap, subst, inl, inr, ◌∙◌, arith, append_assoc, append-nil}
+use Rattle.std.proofs.Common.{sym, ap, inl, inr, ◌∙◌, arith, append_assoc, append-nil}
 use Rattle.std.proofs.lemmas.Bool.{cases_lt}
 use Rattle.std.specs.declared.io.Error.{Error}
 use Rattle.redux_buffer.specs.Block.{Reserves, usable}
-use Rattle.redux_buffer.specs.Faults.{MetInterrupts, MetInterrupts-none}
 use Rattle.redux_buffer.specs.GrowError.{GrowthFailed}
 use Rattle.redux_buffer.specs.StreamLog.{StreamLog}
 use Rattle.buffer_redux.specs.Buffered.{Buffered, with_block}
@@ -78,22 +77,6 @@ module _ {S P : Type 0} (tells : S → StreamLog) (trace : S → S → Type 0) (
           (let made = place_told count (Ok tt) m p in (p.sending, p.left, p.sent, ap (λ x. x.log) put.others ∙ made.0, made.2))
       sent count (Err e) p =
           (let made = place_told count (Err e) t p in (p.sending, p.left, p.sent, made.0, made.2))
-
-  -- at Ok nothing went wrong but that writes were interrupted; and nothing is flushed
-  pub WritesParts-met : (x : Unit {0}) → WritesParts tells trace s bytes (Ok x) t
-      → MetInterrupts s.log.writes t.log.writes
-  WritesParts-met x w = elim (WritesParts-sent (Ok x) w) [
-    | inl same ↦ subst (λ l. MetInterrupts s.log.writes l.writes) (sym same) (MetInterrupts-none s.log.writes)
-    | inr (sending, left, sent, told, failed) ↦
-        subst (λ l. MetInterrupts s.log.writes l.writes) (sym told) (met sending left sent failed)
-  ]
-    where
-      met : (sending : Result (Unit {0}) Error) (left : Buffered S P) → WasSent tells trace s sending left
-          → ((e : Error) → sending ≡ Err e → ◌≡◌ {A = Result (Unit {0}) Error} (Ok x) (Err e))
-          → MetInterrupts s.log.writes left.log.writes
-      met (Ok y) left sent failed = sent.ok.met
-      met (Err e) left sent failed =
-          (let odd : ◌≡◌ {A = Result (Unit {0}) Error} (Ok x) (Err e) = failed e refl in cc)
 
   -- the limit stays
   pub WritesParts-limit : (answer : Result (Unit {0}) Error) → WritesParts tells trace s bytes answer t

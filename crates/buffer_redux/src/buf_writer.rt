@@ -1,17 +1,18 @@
 //! The buffered writer.
-ghost use Rattle.std.specs.Prelude.{◌≡◌, ◌<◌, ◌≤◌, ◌^◌, [], ◌++◌, length, Ok, IfErr, true, OnOk, OnErr, IfOk, IsOk};
+ghost use Rattle.std.specs.Prelude.{◌≡◌, ◌+◌, ◌*◌, ◌<◌, ◌≤◌, ◌^◌, [], ◌++◌, length, Ok, IfErr, true, OnOk, OnErr, IfOk, IsOk};
 ghost use Rattle.std.specs.Borrow.{sem, Lends};
 ghost use Rattle.std.specs.Io.{WritesAtMost};
 ghost use Rattle.std.specs.Io.KnownBytes.{Appends, Keeps, WriteAppends};
 ghost use Rattle.redux_buffer.specs.Block.{Plain, Ring, IsBlock, Reserves, MakesRoom};
 ghost use Rattle.redux_buffer.specs.Block.{capacity_for, round, usable};
+ghost use Rattle.redux_buffer.specs.Faults.{FaultsOften, FewFaults, IsInterrupt, interrupt_limit};
 ghost use Rattle.redux_buffer.specs.GrowError.{FitsWithin};
 ghost use Rattle.redux_buffer.specs.StreamLog.{portion};
 ghost use Rattle.buffer_redux.specs.contracts.buf_writer.BufWriter.{the_row};
 ghost use Rattle.buffer_redux.specs.Buffered.{over_buffer, with_block, with_inner, with_policy, InnerWent, Makes};
 ghost use Rattle.buffer_redux.specs.BufWriter.{writer_contents, FlushesAmount, TakesIn, Finished, Writes};
 ghost use Rattle.buffer_redux.specs.BufWriter.{WritesSteadily, WritesInOrder, WriterKeeps, WriteErrorCaused, EmptyWriteCaused, WasSent, WasFlushed, WriterStopped};
-ghost use Rattle.buffer_redux.specs.WriteAll.{TookBeginning, WritesAll};
+ghost use Rattle.buffer_redux.specs.WriteAll.{TookBeginning, WriteAllErrorCaused, WritesAll};
 
 use crate::errors::MakeError;
 use crate::policy::{FlushAmt, StdPolicy, WriterPolicy};
@@ -324,6 +325,10 @@ impl<W: TellWrite, P: WriterPolicy> Write for BufWriter<W, P> {
         ensures bytes { OnOk result (Appends (writer_contents self.old) (writer_contents self.new) bytes.now) }
         ensures in_order { OnOk result (WritesInOrder self.old bytes.now self.new) }
         ensures beginning { TookBeginning bytes.now self.old self.new }
+        ensures few { FewFaults ((interrupt_limit + 1) * length bytes.now) self.old.log.writes self.new.log.writes }
+        ensures often { (P.rules.claims self.old.policy).steady ≡ true
+            → IfErr result (λ e. IsInterrupt e → FaultsOften self.old.log.writes self.new.log.writes) }
+        ensures caused { IfErr result (λ e. WriteAllErrorCaused W.log W.trace P.rules self.old bytes.now e self.new) }
         ensures steadily { (P.rules.claims self.old.policy).steady ≡ true
             → IfErr result (WriterStopped self.old.log.writes self.new.log.writes) }
         ensures whole { IsBlock self.new.block }

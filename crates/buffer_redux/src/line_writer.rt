@@ -1,9 +1,10 @@
 //! A buffered writer that flushes lines.
-ghost use Rattle.std.specs.Prelude.{◌≡◌, ◌++◌, ◌<◌, ◌≤◌, ◌^◌, [], length, Ok, Err, IfErr, true, OnOk, OnErr, IsOk, IfNone, IfOk, IfSome, MatchResult, MatchOption};
+ghost use Rattle.std.specs.Prelude.{◌≡◌, ◌+◌, ◌*◌, ◌++◌, ◌<◌, ◌≤◌, ◌^◌, [], length, Ok, Err, IfErr, true, OnOk, OnErr, IsOk, IfNone, IfOk, IfSome, MatchResult, MatchOption};
 ghost use Rattle.std.specs.Borrow.{sem, Lends};
 ghost use Rattle.std.specs.Io.{WritesAtMost};
 ghost use Rattle.std.specs.Io.KnownBytes.{Appends, Keeps, WriteAppends};
 ghost use Rattle.redux_buffer.specs.Block.{Plain, Ring, IsBlock, Reserves, capacity_for, round, usable};
+ghost use Rattle.redux_buffer.specs.Faults.{FaultsOften, FewFaults, IsInterrupt, interrupt_limit};
 ghost use Rattle.redux_buffer.specs.GrowError.{FitsWithin};
 ghost use Rattle.redux_buffer.specs.StreamLog.{portion};
 ghost use Rattle.buffer_redux.specs.contracts.line_writer.LineWriter.{the_row};
@@ -11,7 +12,7 @@ ghost use Rattle.buffer_redux.specs.Buffered.{over_buffer, with_block, with_inne
 ghost use Rattle.buffer_redux.specs.BufWriter.{writer_contents, Writes, WritesSteadily, WritesInOrder, WriterKeeps, WriteErrorCaused, EmptyWriteCaused, WasSent, WasFlushed, WriterStopped};
 ghost use Rattle.buffer_redux.specs.LineWriter.{line_rules};
 ghost use Rattle.buffer_redux.specs.Unwrapping.{InnerOfFlushed, SendsOrHandles};
-ghost use Rattle.buffer_redux.specs.WriteAll.{TookBeginning, WritesAll};
+ghost use Rattle.buffer_redux.specs.WriteAll.{TookBeginning, WriteAllErrorCaused, WritesAll};
 ghost use Rattle.buffer_redux.specs.WriteFmt.{WritesText};
 
 mod sender;
@@ -263,6 +264,10 @@ impl<W: TellWrite> Write for LineWriter<W> {
         ensures bytes { OnOk result (Appends (writer_contents self.old) (writer_contents self.new) bytes.now) }
         ensures in_order { OnOk result (WritesInOrder self.old bytes.now self.new) }
         ensures beginning { TookBeginning bytes.now self.old self.new }
+        ensures few { FewFaults ((interrupt_limit + 1) * length bytes.now) self.old.log.writes self.new.log.writes }
+        ensures often { (line_rules.claims self.old.policy).steady ≡ true
+            → IfErr result (λ e. IsInterrupt e → FaultsOften self.old.log.writes self.new.log.writes) }
+        ensures caused { IfErr result (λ e. WriteAllErrorCaused W.log W.trace line_rules self.old bytes.now e self.new) }
         ensures steadily { (line_rules.claims self.old.policy).steady ≡ true
             → IfErr result (WriterStopped self.old.log.writes self.new.log.writes) }
         ensures whole { IsBlock self.new.block }

@@ -1,8 +1,9 @@
 -- How the two streams of a run fared.
-use Rattle.std.specs.Prelude.{◌+◌, ◌*◌, ◌≤◌, ◌⊎◌, ℕ, List, length}
+use Rattle.std.specs.Prelude.{◌+◌, ◌≤◌, ◌⊎◌, List, length}
 use Rattle.std.specs.declared.io.Error.{Error}
+pub use Rattle.redux_buffer.specs.Faults.{FaultsOften, FewFaults}
 use Rattle.redux_buffer.specs.Faults.{IsInterrupt, interrupt_limit, OnlyInterrupts, FaultAfterInterrupts, MetInterrupts, SendErrorCaused}
-use Rattle.redux_buffer.specs.StreamLog.{StreamLog, ReadLog, WriteLog}
+use Rattle.redux_buffer.specs.StreamLog.{StreamLog, ReadLog}
 
 -- reads and writes were at most interrupted
 pub record MetNoFault (read read' written written' : StreamLog) : Type 0 where
@@ -13,17 +14,6 @@ pub record MetNoFault (read read' written written' : StreamLog) : Type 0 where
 pub record ReadGaveUp (e : Error) (old new : List Error) : Type 0 where
   pub fault : FaultAfterInterrupts old new e
   pub often : IsInterrupt e → length old + interrupt_limit + 1 ≤ length new
-
--- for each byte that was received, and once more for each of so many failures, writes were interrupted as often as the limit at
--- most
-abbrev pub FewFaults : ℕ → WriteLog → WriteLog → Type 0
-FewFaults failed old new =
-    length new.faults + interrupt_limit * length old.received
-    ≤ length old.faults + interrupt_limit * length new.received + (interrupt_limit + 1) * failed
-
--- faults came that often, and one more
-abbrev pub FaultsOften : WriteLog → WriteLog → Type 0
-FaultsOften old new = length old.faults + interrupt_limit + 1 ≤ length new.faults
 
 -- a read failed with this error, and writes were at most interrupted
 pub record ReadFailed (e : Error) (read read' written written' : StreamLog) : Type 0 where

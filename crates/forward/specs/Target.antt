@@ -1,6 +1,7 @@
 -- What calls of a filter do to its writer.
-use Rattle.std.specs.Prelude.{◌≡◌, ℕ, ◌+◌, ◌-◌, ◌≤◌, ◌⊎◌, length, Bool, Result, Ok, Err, MatchResult, OnOk}
+use Rattle.std.specs.Prelude.{◌≡◌, ℕ, ◌+◌, ◌-◌, ◌≤◌, ◌⊎◌, length, Bool, Result, MatchResult, OnOk}
 use Rattle.std.specs.declared.io.Error.{Error}
+pub use Rattle.redux_buffer.specs.Faults.{failure_count}
 use Rattle.redux_buffer.specs.Faults.{IsInterrupt, MetInterrupts, SendErrorCaused}
 use Rattle.redux_buffer.specs.StreamLog.{StreamLog}
 use Rattle.forward.specs.Prompt.{WritesOn}
@@ -15,11 +16,6 @@ pub record TargetState : Type 0 where
 -- how many bytes were taken in, whether or not they were received
 abbrev pub bytes_taken : TargetState → ℕ
 bytes_taken w = length w.log.writes.received + w.held
-
--- how often sending failed that ended with this answer
-abbrev pub failure_count : {A E : Type 0} → Result A E → ℕ
-failure_count (Ok a) = 0
-failure_count (Err e) = 1
 
 -- the writer was let be: not called, and given no memory
 pub record IsLeft (old new : TargetState) : Type 0 where

@@ -1,17 +1,17 @@
 -- What a buffered writer that takes bytes in, or is flushed, is as the writer of a filter.
-use Rattle.std.proofs.Common.{◌≡◌, inl, inr, ℕ, ◌+◌, ◌<◌, ◌≤◌, List, [], ◌∷◌, ◌++◌, length, take, Bool, true, Result, Ok, Err, MatchResult, IfErr, IsOk, OnOk, refl, sym, ap, subst, arith, length-append, length-drop, length-take-le}
+use Rattle.std.proofs.Common.{◌≡◌, inl, inr, ℕ, ◌+◌, ◌<◌, ◌≤◌, List, [], ◌∷◌, length, Bool, true, Result, Ok, Err, MatchResult, IfErr, IsOk, OnOk, refl, sym, ap, subst, arith, length-append, length-drop}
 use Rattle.std.proofs.lemmas.Bool.{cases_lt, true≢false}
 use Rattle.std.specs.declared.io.Error.{Error}
 use Rattle.buffer_redux.specs.Block.{Block}
 use Rattle.buffer_redux.specs.BufWriter.{WasFlushed, WasSent, WritesInOrder}
 use Rattle.buffer_redux.specs.Buffered.{Buffered}
-use Rattle.buffer_redux.specs.Faults.{IsInterrupt, MetInterrupts, MetInterrupts-none, SendFailed, SendErrorCaused}
-use Rattle.buffer_redux.specs.StreamLog.{StreamLog, WriteLog, after_flush, with_fault}
+use Rattle.buffer_redux.specs.Faults.{FewFaults, MetInterrupts, MetInterrupts-none, SendErrorCaused, failure_count}
+use Rattle.buffer_redux.specs.StreamLog.{StreamLog, after_flush, with_fault}
 use Rattle.buffer_redux.specs.Transfer.{Sends}
+use Rattle.buffer_redux.specs.TransferLaws.{SendFailed-often, Sends-few, Sends-length}
 use Rattle.forward.specs.Prompt.{WritesOn}
 use Rattle.forward.specs.PromptLaws.{WritesOn-grows, WritesOn-none}
-use Rattle.forward.specs.Streams.{FaultsOften, FewFaults}
-use Rattle.forward.specs.Target.{FlushWrites, FlushesOnce, InterruptedLast, PassFailed, PassWrites, failure_count}
+use Rattle.forward.specs.Target.{FlushWrites, FlushesOnce, InterruptedLast, PassFailed, PassWrites}
 use Rattle.programs.specs.Streams.{AllSent}
 use Rattle.programs.specs.TakenIn.{TakesAll, taken_more, target_of}
 
@@ -20,58 +20,6 @@ pub WritesOn-unflushed : {S P : Type 0} (s t : Buffered S P) (accepted : List �
     → t.log.writes.flushed ≡ s.log.writes.flushed → WritesOn s.log.writes t.log.writes
 WritesOn-unflushed s t accepted taken same =
     record { received = record { more = taken.sent; equal = taken.received }; flushed = inl same }
-
--- a failure adds as many faults as were interrupted, and itself at most; and `Interrupted` is itself one more
-failed_few : (interrupts : List Error) (old new : WriteLog) (e : Error) → SendFailed interrupts old new e
-    → length new.faults ≤ length old.faults + length interrupts + 1
-failed_few interrupts old new e failed = elim failed.cause [
-  | inl nothing ↦ omega (arith, ap length nothing.faults, length-append old.faults interrupts)
-  | inr fault ↦ omega (
-    arith,
-    ap length fault.faults,
-    length-append (old.faults ++ interrupts) (e ∷ []),
-    length-append old.faults interrupts,
-  )
-]
-
-failed_often : (interrupts : List Error) (old new : WriteLog) (e : Error) → SendFailed interrupts old new e → IsInterrupt e
-    → FaultsOften old new
-failed_often interrupts old new e failed is = elim failed.cause [
-  | inl nothing ↦ (let odd = nothing.is_write_zero in cc)
-  | inr fault ↦ omega (
-    arith,
-    failed.often is,
-    ap length fault.faults,
-    length-append (old.faults ++ interrupts) (e ∷ []),
-    length-append old.faults interrupts,
-  )
-]
-
--- all was sent, once, or that failed
-module _ {W P : Type 0} (u : Buffered W P) (log : StreamLog) where
-  -- so many bytes went out
-  sent_length : {answer : Result (Unit {0}) Error} {left : Block}
-      → (s : Sends (length u.block.bytes) u.block u.log answer left log)
-      → length log.writes.received ≡ length u.log.writes.received + s.count
-  sent_length s = omega (
-    arith,
-    ap length s.sent.received,
-    length-append u.log.writes.received (take s.count u.block.bytes),
-    length-take-le s.count u.block.bytes s.sent.within,
-  )
-
-  sent_few : {left : Block} → Sends (length u.block.bytes) u.block u.log (Ok tt) left log → FewFaults 0 u.log.writes log.writes
-  sent_few s = omega (
-    arith,
-    s.few,
-    sent_length s,
-    ap length s.ok.faults,
-    length-append u.log.writes.faults s.interrupts,
-  )
-
-  unsent_few : {e : Error} {left : Block} → Sends (length u.block.bytes) u.block u.log (Err e) left log
-      → FewFaults 1 u.log.writes log.writes
-  unsent_few {e} s = omega (arith, s.few, sent_length s, failed_few s.interrupts u.log.writes log.writes e s.failed)
 
 module _ {W P : Type 0} (u v : Buffered W P) where
   -- how sending went that was needed, where nothing was flushed
@@ -88,22 +36,22 @@ module _ {W P : Type 0} (u v : Buffered W P) where
   row_sent Refused (Ok _) left s (Ok _) ended = record {
     not_flushed = s.sent.flushed;
     flushes = s.sent.flushes;
-    few = sent_few u v.log s;
+    few = Sends-few (length u.block.bytes) u.block left u.log v.log (Ok tt) s;
     ended = record { interrupts = s.interrupts; only = s.ok };
   }
   row_sent Refused (Ok _) left s (Err e) refused = record {
     not_flushed = s.sent.flushed;
     flushes = s.sent.flushes;
-    few = omega (arith, sent_few u v.log s);
+    few = omega (arith, Sends-few (length u.block.bytes) u.block left u.log v.log (Ok tt) s);
     ended = inr (record { interrupts = s.interrupts; only = s.ok }, refused);
   }
   row_sent Refused (Err e) left s answer ended = subst (SendRow Refused) (sym ended.0) (record {
     not_flushed = s.sent.flushed;
     flushes = s.sent.flushes;
-    few = unsent_few u v.log s;
+    few = Sends-few (length u.block.bytes) u.block left u.log v.log (Err e) s;
     ended = inl (
       record { interrupts = s.interrupts; cause = s.failed.cause },
-      failed_often s.interrupts u.log.writes v.log.writes e s.failed,
+      SendFailed-often s.interrupts u.log.writes v.log.writes e s.failed,
     );
   })
 
@@ -191,18 +139,21 @@ module _ {W P : Type 0} (u v : Buffered W P) where
       record {
         flushes = inr (
           omega (arith, s.sent.flushes, ap (λ l. l.writes.flushes) told),
-          omega (arith, s.whole, received, sent_length u log s),
+          omega (arith, s.whole, received, Sends-length (length u.block.bytes) u.block v.block u.log log (Ok tt) s),
         );
         few = few answer faults received;
         often = often answer;
       }
     where
+      sent : FewFaults 0 u.log.writes log.writes
+      sent = Sends-few (length u.block.bytes) u.block v.block u.log log (Ok tt) s
+
       few : (answer : Result (Unit {0}) Error) → length v.log.writes.faults ≡ length (with_fault log.writes.faults answer)
           → length v.log.writes.received ≡ length log.writes.received
           → FewFaults (failure_count answer) u.log.writes v.log.writes
-      few (Ok _) faults received = omega (arith, sent_few u log s, faults, received)
+      few (Ok _) faults received = omega (arith, sent, faults, received)
       few (Err e) faults received =
-          omega (arith, sent_few u log s, faults, received, length-append log.writes.faults (e ∷ []))
+          omega (arith, sent, faults, received, length-append log.writes.faults (e ∷ []))
 
       often : (answer : Result (Unit {0}) Error) → IfErr answer (λ e. InterruptedLast (target_of u) e (target_of v))
       often (Ok _) = tt
@@ -217,8 +168,8 @@ module _ {W P : Type 0} (u v : Buffered W P) where
       let sent = subst (Sends (length u.block.bytes) u.block u.log (Err e) v.block) (sym ended.1) s in
       subst FlushRow (sym ended.0) (record {
         flushes = inl sent.sent.flushes;
-        few = unsent_few u v.log sent;
-        often = λ is. inl (failed_often sent.interrupts u.log.writes v.log.writes e sent.failed is);
+        few = Sends-few (length u.block.bytes) u.block v.block u.log v.log (Err e) sent;
+        often = λ is. inl (SendFailed-often sent.interrupts u.log.writes v.log.writes e sent.failed is);
       })
 
   module _ {tells : W → StreamLog} {trace : W → W → Type 0} where

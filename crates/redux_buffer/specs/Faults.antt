@@ -1,5 +1,5 @@
 -- What the faults that a stream tells say of a call.
-use Rattle.std.specs.Prelude.{◌≡◌, ℕ, ◌+◌, ◌≤◌, ◌⊎◌, List, [], ◌∷◌, ◌++◌, length}
+use Rattle.std.specs.Prelude.{◌≡◌, ℕ, ◌+◌, ◌*◌, ◌≤◌, ◌⊎◌, List, [], ◌∷◌, ◌++◌, length, Result, Ok, Err}
 use Rattle.std.proofs.Common.{sym, refl, ap, subst, ◌∙◌, arith, inl, inr, append-nil, append_assoc}
 use Rattle.std.proofs.lemmas.List.{take_at, drop_at, append_cancel_left}
 use Rattle.std.proofs.lemmas.List.Elements.{All-nil, All-cons, All-push, All-append, All-take, All-drop}
@@ -68,6 +68,22 @@ pub record SendFailed (interrupts : List Error) (old new : WriteLog) (e : Error)
 pub record SendErrorCaused (old new : WriteLog) (e : Error) : Type 0 where
   pub interrupts : List Error
   pub cause : TookNothing interrupts old new (error_kind e) ⊎ FaultedAfter interrupts old new e
+
+-- for each byte that was received, and once more for each of so many failures, writes were interrupted as often as the limit at
+-- most
+abbrev pub FewFaults : ℕ → WriteLog → WriteLog → Type 0
+FewFaults failed old new =
+    length new.faults + interrupt_limit * length old.received
+    ≤ length old.faults + interrupt_limit * length new.received + (interrupt_limit + 1) * failed
+
+-- faults came that often, and one more
+abbrev pub FaultsOften : WriteLog → WriteLog → Type 0
+FaultsOften old new = length old.faults + interrupt_limit + 1 ≤ length new.faults
+
+-- how often a call failed that ended with this answer
+abbrev pub failure_count : {A E : Type 0} → Result A E → ℕ
+failure_count (Ok a) = 0
+failure_count (Err e) = 1
 
 -- one row of faults joins another, and the fault after it comes after both
 rows_join : (p q a b c : List Error) → b ≡ a ++ p → c ≡ b ++ q → c ≡ a ++ (p ++ q)

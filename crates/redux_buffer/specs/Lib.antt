@@ -16,3 +16,4 @@ pub mod BlockLaws
 pub mod Potential
 pub mod BufImpl
 pub mod Transfer
+pub mod TransferLaws
