@@ -7,7 +7,7 @@ use Rattle.piece_reader.specs.declared.decoder.Span.{Span}
 use Rattle.piece_reader.specs.declared.error.NextError.{NextError}
 use Rattle.piece_reader.specs.declared.error.NextError.TheVariants.{Wrong, Io}
 use Rattle.piece_reader.specs.Grammar.{Grammar}
-use Rattle.piece_reader.specs.Looking.{LookedAt, LooksInTurn, LooksForMore, LookTells}
+use Rattle.piece_reader.specs.Looking.{LookedAt, LooksFromLast, LooksInTurn, LooksForMore, LookTells}
 use Rattle.piece_reader.specs.PiecesWentLaws.{PiecesWent-joins}
 use Rattle.piece_reader.specs.PieceReader.{ReaderState, rest}
 use Rattle.piece_reader.specs.Steps.{AsksFor, TakesEnd}
@@ -73,17 +73,21 @@ end_inside g s t (Ok (Some span)) (some, within, last, is) = ap (λ x. x.reader)
 end_inside g s t (Err (Wrong e)) (some, cut, is) = ap (λ x. x.reader) is
 end_inside g s t (Err (Io e)) ends = absurd ends
 
--- what is left, and all that came behind a look at it, was looked at as it was left before that look
-pub looked_before : {S D W : Type 0} (looks : D → LookTells W) (s m t : ReaderState S D) (need seen : ℕ)
-    → m ≡ record s { seen = seen } → LooksForMore looks m need t → LooksForMore looks s need t
-looked_before looks s m t need seen same on =
-    let on' : LooksForMore looks (record s { seen = seen }) need t = subst (λ x. LooksForMore looks x need t) same on in
-    record {
-      count = on'.count;
-      bytes = on'.bytes;
-      found = on'.found;
-      turns = on'.turns;
-      got = on'.got;
-      given = on'.given;
-      all = on'.all;
-    }
+-- behind a look that asked for more, all that was left and came was looked at from where the last look ended
+pub looks_on : {S D W : Type 0} (looks : D → LookTells W) (s m t : ReaderState S D) (need : ℕ)
+    → looks s.decoder (rest s) s.seen (More need) → m ≡ record s { seen = length (rest s) } → LooksForMore looks m need t
+    → LooksFromLast looks s t
+looks_on looks s m t need look same on =
+    let on' : LooksForMore looks (record s { seen = length (rest s) }) need t = subst (λ x. LooksForMore looks x need t) same on in (
+      More need,
+      look,
+      record {
+        count = on'.count;
+        bytes = on'.bytes;
+        found = on'.found;
+        turns = on'.turns;
+        got = on'.got;
+        given = on'.given;
+        all = on'.all;
+      },
+    )

@@ -8,7 +8,7 @@ use Rattle.piece_reader.specs.declared.header.Header.TheVariants.{Short, Sized, 
 use Rattle.piece_reader.specs.declared.header_error.HeaderError.{HeaderError}
 use Rattle.piece_reader.specs.declared.header_error.HeaderError.TheVariants.{NoHeader, NoTail, TooLong, Truncated}
 use Rattle.piece_reader.specs.Decoding.{IsPiece}
-use Rattle.piece_reader.specs.Grammar.{IsLawful, IsOpenBelow}
+use Rattle.piece_reader.specs.Grammar.{IsLawful}
 use Rattle.piece_reader.specs.HeaderFormat.{BeginsNone, HeaderFormat, IsHeaderFormat, length_prefixed}
 
 sized_same : (n u n' u' : ℕ) (x : Header) → x ≡ Sized n u → x ≡ Sized n' u' → (n ≡ n') × (u ≡ u')
@@ -119,37 +119,6 @@ module _ (h : HeaderFormat) (law : IsHeaderFormat h) where
     one_last = λ bytes a b is is'. absurd is;
     end_apart = λ bytes a e is cut. is;
   }
-
-  -- where the rest isn't
-  pub sized_lacks : (bytes : List ℕ) (len used : ℕ) → h.header bytes ≡ Sized len used → len ≤ h.max
-      → IsOpenBelow (length_prefixed h) (used + len + length h.tail) bytes
-  sized_lacks bytes len used is fits more few = record {
-    no_piece = λ b.
-        let says = ap h.header b.equal ∙ said b.piece b.payload b.more b.is in
-        let parts = sized_same len used (length b.payload) b.is.0 (h.header (bytes ++ more)) here says in
-        omega (
-          arith,
-          few,
-          size b.piece b.payload b.is,
-          ap length b.equal,
-          length-append b.piece b.more,
-          parts.0,
-          parts.1,
-        );
-    not_wrong = λ e wrong. never e wrong;
-  }
-    where
-      here : h.header (bytes ++ more) ≡ Sized len used
-      here = law.sized bytes more len used is
-
-      never : (e : HeaderError) → ¬ (BeginsNone h (bytes ++ more) e)
-      never NoHeader bad = (let odd : Sized len used ≡ Bad = sym here ∙ bad in cc)
-      never (TooLong len') m =
-          omega (arith, fits, m.2, (sized_same len used len' m.0 (h.header (bytes ++ more)) here m.1).0)
-      never NoTail l =
-          let parts = sized_same len used l.0 l.1 (h.header (bytes ++ more)) here l.2 in
-          omega (arith, few, l.4, parts.0, parts.1)
-      never (Truncated have) none = none
 
   -- where all is there
   pub length_prefixed_piece : (bytes : List ℕ) (len used : ℕ) → h.header bytes ≡ Sized len used → len ≤ h.max

@@ -1,5 +1,5 @@
 -- Laws of pieces that several bytes end.
-use Rattle.std.specs.Prelude.{◌≡◌, ℕ, ◌+◌, ◌<◌, ◌≤◌, List, ◌++◌, length}
+use Rattle.std.specs.Prelude.{ℕ, ◌+◌, ◌<◌, List, ◌++◌, length}
 use Rattle.std.proofs.Common.{sym, ap, subst, ◌∙◌, arith, length-append}
 use Rattle.memchr.specs.Find.{OccursAt}
 use Rattle.buffer_redux.specs.OccursLaws.{OccursAt-fewer, OccursAt-last, OccursAt-more, OccursAt-one}

@@ -1,12 +1,10 @@
 -- A look alone hands nothing out, so a step behind it is this one; what is ready or wrong follows from that.
-use Rattle.std.proofs.Common.{ap, length}
-use Rattle.piece_reader.specs.declared.decoder.Found.TheVariants.{More}
+use Rattle.std.proofs.Common.{ap}
 use Rattle.piece_reader.specs.NextPiece.{load_answer}
 use Rattle.piece_reader.specs.NextPieceLaws.{NextPiece-ready, NextPiece-wrong}
 use Rattle.piece_reader.proofs.Lending.{lends_piece}
-use Rattle.piece_reader.specs.PieceReader.{rest}
 use Rattle.piece_reader.proofs.Loading.{next_looked, takes_shown}
-use Rattle.piece_reader.proofs.Looking.{looked_before}
+use Rattle.piece_reader.proofs.Looking.{looks_on}
 use Rattle.piece_reader.proofs.reader.PieceReader.step.Goals as goal
 
 pub returns-in-Piece-clause-next : goal.returns-in-Piece-clause-next
@@ -42,10 +40,5 @@ returns-in-Piece-clause-lends g c =
 
 pub returns-in-More-clause-looked : goal.returns-in-More-clause-looked
 returns-in-More-clause-looked g c =
-    let wants = c.in-More.ensures in
-    let s = c.args.self.now in (
-      More c.in-More.need,
-      wants.looks,
-      looked_before g.D.Decoder.looks s c.take.new.self c.load_apart.new.self c.in-More.need (length (rest s)) wants.takes.3
-          c.load_apart.ensures.looked,
-    )
+    looks_on g.D.Decoder.looks c.args.self.now c.take.new.self c.load_apart.new.self c.in-More.need c.in-More.ensures.looks
+    c.in-More.ensures.takes.3 c.load_apart.ensures.looked

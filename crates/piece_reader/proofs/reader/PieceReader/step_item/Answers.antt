@@ -1,13 +1,12 @@
 -- Calls hand out one list of bytes, so those at the buffer's front are the piece, and say its item.
-use Rattle.std.proofs.Common.{◌-◌, Err, None, Ok, Some, ap, drop, length, subst, take, ◌∙◌}
+use Rattle.std.proofs.Common.{◌-◌, Err, None, Ok, Some, ap, drop, subst, take, ◌∙◌}
 use Rattle.buffer_redux.specs.Unbuffer.{HandsOutInOrder}
 use Rattle.buffer_redux.specs.UnbufferLaws.{HandsOutInOrder-same}
-use Rattle.piece_reader.specs.declared.decoder.Found.TheVariants.{More}
 use Rattle.piece_reader.specs.NextPiece.{NextPiece, load_answer}
-use Rattle.piece_reader.specs.PieceReader.{left_of, rest}
+use Rattle.piece_reader.specs.PieceReader.{left_of}
 use Rattle.piece_reader.proofs.Lending.{lends_piece}
 use Rattle.piece_reader.proofs.Loading.{next_looked}
-use Rattle.piece_reader.proofs.Looking.{looked_before}
+use Rattle.piece_reader.proofs.Looking.{looks_on}
 use Rattle.piece_reader.proofs.Saying.{loaded_front, loaded_next, part_front, says_piece, whole_front, whole_piece, wrong_now}
 use Rattle.piece_reader.proofs.reader.PieceReader.step_item.Goals as goal
 
@@ -61,30 +60,42 @@ returns-in-Ok-Some-clause-next g c =
           ∙ ap (g.D.Items.item_of s.decoder) bytes;
     }
 
-pub returns-in-Ok-None-clause-next : goal.returns-in-Ok-None-clause-next
-returns-in-Ok-None-clause-next g c =
+pub returns-in-Ok-None : goal.returns-in-Ok-None
+returns-in-Ok-None g c =
     let remaining = g.R.TellRead.remaining in
+    let s = c.args.self.now in
     let m = c.take.new.self in
     let t = c.load_apart.new.self in
     record {
-      next = next_looked remaining g.D.Decoder.grammar c.args.self.now m t c.in-More.need (Ok None) c.take.ensures.before
-          c.in-More.ensures.takes
-          (subst (λ r. NextPiece remaining (g.D.Decoder.grammar m.decoder) m (load_answer r t) t)
-          (c.in-Ok-None.is ∙ ap (λ x. Ok x) c.in-Ok-None.field-0-is) c.load_apart.ensures.next);
-      says = tt;
+      lends = tt;
+      looked = looks_on g.D.Decoder.looks s m t c.in-More.need c.in-More.ensures.looks c.in-More.ensures.takes.3
+          c.load_apart.ensures.looked;
+      next = record {
+        next = next_looked remaining g.D.Decoder.grammar s m t c.in-More.need (Ok None) c.take.ensures.before
+            c.in-More.ensures.takes
+            (subst (λ r. NextPiece remaining (g.D.Decoder.grammar m.decoder) m (load_answer r t) t)
+            (c.in-Ok-None.is ∙ ap (λ x. Ok x) c.in-Ok-None.field-0-is) c.load_apart.ensures.next);
+        says = tt;
+      };
     }
 
-pub returns-in-Err-clause-next : goal.returns-in-Err-clause-next
-returns-in-Err-clause-next g c =
+pub returns-in-Err : goal.returns-in-Err
+returns-in-Err g c =
     let remaining = g.R.TellRead.remaining in
+    let s = c.args.self.now in
     let m = c.take.new.self in
     let t = c.load_apart.new.self in
     record {
-      next = next_looked remaining g.D.Decoder.grammar c.args.self.now m t c.in-More.need (Err c.in-Err.e)
-          c.take.ensures.before c.in-More.ensures.takes
-          (subst (λ r. NextPiece remaining (g.D.Decoder.grammar m.decoder) m (load_answer r t) t) c.in-Err.is
-          c.load_apart.ensures.next);
-      says = tt;
+      lends = tt;
+      looked = looks_on g.D.Decoder.looks s m t c.in-More.need c.in-More.ensures.looks c.in-More.ensures.takes.3
+          c.load_apart.ensures.looked;
+      next = record {
+        next = next_looked remaining g.D.Decoder.grammar s m t c.in-More.need (Err c.in-Err.e) c.take.ensures.before
+            c.in-More.ensures.takes
+            (subst (λ r. NextPiece remaining (g.D.Decoder.grammar m.decoder) m (load_answer r t) t) c.in-Err.is
+            c.load_apart.ensures.next);
+        says = tt;
+      };
     }
 
 pub returns-in-Wrong-clause-next : goal.returns-in-Wrong-clause-next
@@ -98,30 +109,5 @@ returns-in-Wrong-clause-next g c =
 
 pub returns-in-Ok-Some-clause-looked : goal.returns-in-Ok-Some-clause-looked
 returns-in-Ok-Some-clause-looked g c =
-    let wants = c.in-More.ensures in
-    let s = c.args.self.now in (
-      More c.in-More.need,
-      wants.looks,
-      looked_before g.D.Decoder.looks s c.take.new.self c.load_apart.new.self c.in-More.need (length (rest s)) wants.takes.3
-          c.load_apart.ensures.looked,
-    )
-
-pub returns-in-Ok-None-clause-looked : goal.returns-in-Ok-None-clause-looked
-returns-in-Ok-None-clause-looked g c =
-    let wants = c.in-More.ensures in
-    let s = c.args.self.now in (
-      More c.in-More.need,
-      wants.looks,
-      looked_before g.D.Decoder.looks s c.take.new.self c.load_apart.new.self c.in-More.need (length (rest s)) wants.takes.3
-          c.load_apart.ensures.looked,
-    )
-
-pub returns-in-Err-clause-looked : goal.returns-in-Err-clause-looked
-returns-in-Err-clause-looked g c =
-    let wants = c.in-More.ensures in
-    let s = c.args.self.now in (
-      More c.in-More.need,
-      wants.looks,
-      looked_before g.D.Decoder.looks s c.take.new.self c.load_apart.new.self c.in-More.need (length (rest s)) wants.takes.3
-          c.load_apart.ensures.looked,
-    )
+    looks_on g.D.Decoder.looks c.args.self.now c.take.new.self c.load_apart.new.self c.in-More.need c.in-More.ensures.looks
+    c.in-More.ensures.takes.3 c.load_apart.ensures.looked
