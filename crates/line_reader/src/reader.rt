@@ -152,8 +152,9 @@ impl<R: Tell> LineReader<R> {
         self.pieces.get_mut()
     }
 
-    /// The inner reader. What is buffered is gone, and so is an end that no call has told; [`rest`](LineReader::rest) shows it
-    /// before.
+    /// The inner reader. What is buffered is gone, and so is an end that no call has told; [`rest`](LineReader::rest) and
+    /// [`has_ended`](LineReader::has_ended) show them before. Where a line [`is_skipping`](LineReader::is_skipping) the stream
+    /// goes on in the middle of it.
     pub fn into_inner(self) -> R
         ensures inner { result ≡ self.pieces.reader.inner }
         ensures log { R.log result ≡ self.pieces.reader.log }
@@ -169,18 +170,25 @@ impl<R: Tell> LineReader<R> {
     /// [`set_limit`](Buffer::set_limit).
     ///
     /// The last part is whether the stream ended, which no call has told yet ([`has_ended`](LineReader::has_ended)): a reader
-    /// that is made of the others doesn't know that, and would ask the stream again. That a line
-    /// [`is_skipping`](LineReader::is_skipping) is forgotten: ask before.
-    pub fn into_inner_with_buffer(self) -> (R, Buffer, bool)
-        ensures left { (result.0 ≡ self.pieces.reader.inner) × (result.1.bytes ≡ rest self.pieces) }
-        ensures ended { result.2 ≡ self.pieces.ended }
-        ensures apart { TakenApart R.log self.pieces result.0 result.1 }
+    /// that is made of the others doesn't know that, and would ask the stream again.
+    ///
+    /// Where a line [`is_skipping`](LineReader::is_skipping) the reader is handed back as it was, since the stream goes on in
+    /// the middle of that line: a [`skip_line`](LineReader::skip_line) that is Ok goes through its end.
+    pub fn into_inner_with_buffer(self) -> Result<(R, Buffer, bool), Self>
+        ensures left { IfOk result (λ parts. (parts.0 ≡ self.pieces.reader.inner) × (parts.1.bytes ≡ rest self.pieces)) }
+        ensures ended { IfOk result (λ parts. parts.2 ≡ self.pieces.ended) }
+        ensures between { IsOk result ↔ (self.skipping ≡ false) }
+        ensures handed_back { IfErr result (λ back. back ≡ self) }
+        ensures apart { IfOk result (λ parts. TakenApart R.log self.pieces parts.0 parts.1) }
     {
+        if self.skipping {
+            return Err(self);
+        }
         let LineReader {
             pieces,
             skipping: _,
         } = self;
-        pieces.into_inner_with_buffer()
+        Ok(pieces.into_inner_with_buffer())
     }
 
     /// The greatest length of a line, in bytes, its end not counted.
@@ -191,7 +199,7 @@ impl<R: Tell> LineReader<R> {
     }
 
     /// Whether a line is being skipped, in which [`skip_line`](LineReader::skip_line) failed: what comes of it through its end
-    /// is dropped by the next call. Who takes the reader apart then has the middle of that line before it.
+    /// is dropped by the next call that asks the stream.
     pub fn is_skipping(&self) -> bool
         ensures value { result ≡ self.now.skipping }
         ensures whole { IsLineReader self.now }

@@ -288,7 +288,7 @@ fn reads_as_the_stream_gives(rt: HostRuntime) -> Result<(), Fail> {
 
 // The lines behind the first, of a reader that is made again of its parts.
 fn goes_on(alloc: Global, lines: Lines, max: usize) -> Option<Lines> {
-    let (inner, buffer, _) = lines.into_inner_with_buffer();
+    let (inner, buffer, _) = lines.into_inner_with_buffer().ok()?;
     LineReader::with_buffer(alloc, buffer, inner, max).ok()
 }
 
@@ -318,6 +318,29 @@ fn goes_on_with_another_length(rt: HostRuntime) -> Result<(), Fail> {
     for &(max, wants) in &GO_ON {
         assert!(rt; is_so(rt.alloc(), max, wants)?, "{max}");
     }
+    Ok(())
+}
+
+// The reader that is handed back, where it isn't taken apart.
+fn whole(lines: Lines) -> Option<Lines> {
+    lines.into_inner_with_buffer().err()
+}
+
+// Behind a skip that failed within a line.
+fn within_one(alloc: Global) -> io::Result<Lines> {
+    let script = [Answer::Serve(3), Answer::Fail(ErrorKind::TimedOut)];
+    let mut lines = reader(alloc, 3, source(alloc, b"abcdef\nok", &script)?)?;
+    let _ = skip_line(&mut lines);
+    Ok(lines)
+}
+
+#[test]
+fn stays_whole_within_a_line(rt: HostRuntime) -> Result<(), Fail> {
+    let stays = match whole(within_one(rt.alloc())?) {
+        Some(lines) => walk(lines, &[Skipping(true), Next(b"ok"), End]).is_some(),
+        None => false,
+    };
+    assert!(rt; stays);
     Ok(())
 }
 
