@@ -4,7 +4,7 @@ use Rattle.std.specs.Global.{Vec}
 use Rattle.std.proofs.Common.{sym, ap, subst, ◌∙◌, arith, inl, append_assoc, length-append}
 use Rattle.std.proofs.lemmas.List.{length-map, take-map}
 use Rattle.codec.specs.PayloadsLaws.{before}
-use Rattle.piece_reader.specs.Runs.{AnswersPlayed, AnswersStopped, kept_answer}
+use Rattle.piece_reader.specs.Runs.{AnswersStopped, kept_answer}
 use Rattle.piece_reader.specs.RunsLaws.{gains_more}
 use Rattle.codec.specs.WriteRuns.{CallsPlayed}
 
@@ -19,10 +19,6 @@ pub record PlaysSo {T E : Type 0} (Plays : T → List (Result (Option (List ℕ)
 
 module _ {T E : Type 0} {Plays : T → List (Result (Option (List ℕ)) E) → T → Type 0} {old kept : List (Result (Option (Vec ℕ)) E)}
     {room have : ℕ} {s : T} {calls : ℕ} {m : T} (so : PlaysSo Plays old kept room have s calls m) where
-  -- all were
-  pub all_played : (all : ℕ) → calls ≡ all → AnswersPlayed Plays s all (map kept_answer old) (map kept_answer kept) m
-  all_played all is = record { answers = so.answers; gained = so.gained; all = so.count ∙ is; plays = so.plays }
-
   -- one more was
   pub plays_on : (kept' : List (Result (Option (Vec ℕ)) E)) (have' : ℕ) (x : Result (Option (Vec ℕ)) E) (t : T)
       → kept' ≡ kept ++ x ∷ [] → have ≤ have' → Plays s (so.answers ++ kept_answer x ∷ []) t

@@ -1,7 +1,7 @@
 -- A header is read byte by byte.
 use Rattle.std.specs.Prelude.{◌≡◌, ℕ, zero, suc, ◌+◌, ◌-◌, ◌<◌, ◌≤◌, List, [], ◌∷◌, ◌++◌, length, take, drop, get_or}
 use Rattle.std.proofs.Common.{sym, ap, subst, ◌∙◌, arith, refl, length-take-le}
-use Rattle.std.proofs.lemmas.List.{drop_all, drop_more, take-append-drop, take_all, take_more}
+use Rattle.std.proofs.lemmas.List.{drop_all, drop_more, take-append-drop, take_more}
 use Rattle.codec.specs.Scanning.{LeadsTo, says, scan_on}
 use Rattle.codec.specs.ScanningLaws.{leads_on, leads_then}
 use Rattle.piece_reader.specs.declared.header.Header.TheVariants as header
@@ -49,13 +49,6 @@ module _ {S : Type 0} (go : S → ℕ → ScanStep S) where
       scans_short end some =
           so.goes ∙ ap (λ l. scan_on go so.left state used l) (drop_all used bytes end)
           ∙ no_byte so.left state used (omega (arith, some, so.all))
-
-      -- and all of them lead to where it stands
-      pub scans_all : used ≡ length bytes → ¬ (used ≡ most) → LeadsTo go start bytes state × (length bytes < most)
-      scans_all end some = (
-        subst (λ l. LeadsTo go start l state) (take_all used bytes (omega (arith, end))) so.leads,
-        omega (arith, end, some, so.all),
-      )
 
       module _ (byte other : ℕ) (inside : used < length bytes) (is : byte ≡ get_or bytes used other) (some : ¬ (used ≡ most))
           (t : ScanStep S) (turns : go state byte ≡ t) where

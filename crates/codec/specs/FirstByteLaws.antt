@@ -1,19 +1,16 @@
 -- Laws of protocols that the first byte tells apart.
 use Rattle.std.specs.Prelude.{◌≡◌, ℕ, zero, suc, ◌<◌, ◌≤◌, ◌==◌, List, [], ◌∷◌, ◌++◌, length, take, max, Bool, true, false, slice_index, MatchBool}
-use Rattle.std.proofs.Common.{sym, ap, subst, ◌∙◌, arith, refl, inl, inr}
+use Rattle.std.proofs.Common.{sym, ap, subst, ◌∙◌, arith, refl}
 use Rattle.std.proofs.Math.Nat.{le-max_left, le-max_right}
 use Rattle.codec.specs.declared.by_first.EitherWrong.{EitherWrong}
 use Rattle.codec.specs.declared.by_first.EitherWrong.TheVariants.{One, Other}
-use Rattle.piece_reader.specs.declared.decoder.End.{End}
-use Rattle.piece_reader.specs.declared.decoder.End.TheVariants as end
 use Rattle.piece_reader.specs.declared.decoder.Found.{Found}
 use Rattle.piece_reader.specs.declared.decoder.Found.TheVariants as found
-use Rattle.piece_reader.specs.Decoding.{Decodes, DecodesAtEnd, bytes_at}
+use Rattle.piece_reader.specs.Decoding.{Decodes, bytes_at}
 use Rattle.piece_reader.specs.Looking.{LookTells}
-use Rattle.codec.specs.FirstByte.{OnFirst, SaidAs, by_first, either, either_looks, either_notes, end_as, found_as, renamed}
+use Rattle.codec.specs.FirstByte.{OnFirst, SaidAs, by_first, either, either_looks, found_as, renamed}
 use Rattle.piece_reader.specs.Grammar.{Grammar, IsLawful, IsOpen}
 use Rattle.piece_reader.specs.GrammarLaws.{open_as, open_none}
-use Rattle.piece_reader.specs.Items.{IsWhole}
 
 -- other words for why bytes are none change nothing else
 module _ {V W : Type 0} (f : V → W) (g : Grammar V) where
@@ -41,10 +38,6 @@ module _ {V W : Type 0} (f : V → W) (g : Grammar V) where
   renamed_decodes bytes (found.More n) (few, most, lacks) =
       (few, most, λ more short. open_renamed (bytes ++ more) (lacks more short))
   renamed_decodes bytes (found.Wrong e) is = (e, is, refl)
-
-  pub renamed_ends : (bytes : List ℕ) (is : End V) → DecodesAtEnd g bytes is → DecodesAtEnd (renamed f g) bytes (end_as f is)
-  renamed_ends bytes (end.Last span) is = is
-  renamed_ends bytes (end.Wrong e) is = (e, is, refl)
 
 module _ {W : Type 0} (most : ℕ) (of_byte : ℕ → Grammar W) (room : 0 < most) (laws : (byte : ℕ) → IsLawful (of_byte byte)) where
   one : (p q xs ys a b : List ℕ) → OnFirst (λ byte. (of_byte byte).piece) p a → OnFirst (λ byte. (of_byte byte).piece) q b
@@ -150,11 +143,6 @@ module _ {W : Type 0} (most : ℕ) (of_byte : ℕ → Grammar W) (room : 0 < mos
         (few, omega (arith, room_for, fits), λ more short. open_first (bytes ++ more) (lacks more short))
     first_decodes fits bytes (found.Wrong e) is = is
 
-    pub first_ends : (bytes : List ℕ) (is : End W) → DecodesAtEnd (of_byte byte) (byte ∷ bytes) is
-        → DecodesAtEnd (by_first most of_byte) (byte ∷ bytes) is
-    first_ends bytes (end.Last span) is = is
-    first_ends bytes (end.Wrong e) is = is
-
 abbrev side : {V W : Type 0} → Grammar V → Grammar W → Bool → Grammar (EitherWrong V W)
 side {V} {W} g h is = elim is as (λ _. Grammar (EitherWrong V W)) [
   | true ↦ renamed (λ e. One e) g
@@ -163,23 +151,6 @@ side {V} {W} g h is = elim is as (λ _. Grammar (EitherWrong V W)) [
 
 abbrev one_or : {V W : Type 0} → ℕ → Grammar V → Grammar W → ℕ → Grammar (EitherWrong V W)
 one_or byte g h first = side g h (first == byte)
-
--- the notes of two protocols, by the side of the first byte
-module _ {N M : Type 0} (byte : ℕ) (Ones : List ℕ → N → Type 0) (Others : List ℕ → M → Type 0) (note : N × M) where
-  pub side_noted : (b : Bool) (bytes : List ℕ) (seen : ℕ) → 0 < length bytes → (slice_index bytes 0 == byte) ≡ b
-      → either_notes byte Ones Others (take seen bytes) note
-      → MatchBool b (Ones (take seen bytes) note.0) (Others (take seen bytes) note.1)
-  side_noted b [] seen some is n = absurd (omega (arith, some))
-  side_noted true (first ∷ bytes) zero some is n = n.0
-  side_noted false (first ∷ bytes) zero some is n = n.1
-  side_noted b (first ∷ bytes) (suc seen) some is n =
-      subst (λ x. MatchBool x (Ones (first ∷ take seen bytes) note.0) (Others (first ∷ take seen bytes) note.1)) is n
-
-  pub side_leaves : (b : Bool) (bytes : List ℕ) → 0 < length bytes → (slice_index bytes 0 == byte) ≡ b
-      → MatchBool b (Ones bytes note.0) (Others bytes note.1) → either_notes byte Ones Others bytes note
-  side_leaves b [] some is n = absurd (omega (arith, some))
-  side_leaves b (first ∷ bytes) some is n =
-      subst (λ x. MatchBool x (Ones (first ∷ bytes) note.0) (Others (first ∷ bytes) note.1)) (sym is) n
 
 -- what a look tells, by that side
 pub looks_by_side : {V W : Type 0} (byte : ℕ) (Ones : LookTells V) (Others : LookTells W) (seen : ℕ)
@@ -228,16 +199,3 @@ module _ {V W : Type 0} (byte : ℕ) (g : Grammar V) (h : Grammar W) (one_law : 
     side_decodes (first ∷ bytes) some is found decodes =
         first_decodes (max g.most h.most) (one_or byte g h) room laws first (fits (first == byte)) bytes found
         (subst (λ x. Decodes (side g h x) (first ∷ bytes) found) (sym is) decodes)
-
-    pub side_ends : (bytes : List ℕ) → 0 < length bytes → (slice_index bytes 0 == byte) ≡ b
-        → (is : End (EitherWrong V W)) → DecodesAtEnd (side g h b) bytes is → DecodesAtEnd (either byte g h) bytes is
-    side_ends [] some is end ends = absurd (omega (arith, some))
-    side_ends (first ∷ bytes) some is end ends =
-        first_ends (max g.most h.most) (one_or byte g h) room laws first bytes end
-        (subst (λ x. DecodesAtEnd (side g h x) (first ∷ bytes) end) (sym is) ends)
-
-  -- a piece of either has a first byte
-  pub either_some : (bytes : List ℕ) → IsWhole (either byte g h) bytes → 0 < length bytes
-  either_some [] (payload, inl is) = absurd is
-  either_some [] (payload, inr is) = absurd is
-  either_some (first ∷ bytes) is = omega arith

@@ -1,13 +1,10 @@
 -- What a call of a reader of pieces comes to in a reader of lines.
 use Rattle.std.proofs.Common.{[], ◌≡◌, ℕ, ◌+◌, ◌<◌, ◌≤◌, List, ◌∷◌, ◌++◌, length, length-append, length-drop, take, true, false, Option, Ok, Err, Some, None, inl, inr, refl, sym, ap, subst, ◌∙◌, arith, append_assoc}
 use Rattle.piece_reader.specs.declared.decoder.Span.{Span}
-use Rattle.piece_reader.specs.Decoding.{bytes_at}
 use Rattle.piece_reader.specs.DelimitedLaws.{delimited_lawful}
 use Rattle.piece_reader.specs.Grammar.{Begins}
-use Rattle.piece_reader.specs.NextPiece as pieces
-use Rattle.piece_reader.specs.NextPiece.{NextPiece, StaysLeft, buffered_answer, load_answer}
+use Rattle.piece_reader.specs.NextPiece.{NextPiece, StaysLeft, load_answer}
 use Rattle.piece_reader.specs.NextPieceLaws.{NextPiece-ready, NextPiece-refused, NextPiece-wrong}
-use Rattle.piece_reader.specs.PiecesWentLaws.{PiecesWent-unasked}
 use Rattle.piece_reader.specs.PieceReader.{IsPieceReader, IsSettled, ReaderState, rest}
 use Rattle.piece_reader.specs.StaysLeftLaws.{StaysLeft-next}
 use Rattle.line_reader.specs.declared.error.LineError.TheVariants.{TooLong, Io}
@@ -62,30 +59,6 @@ module _ {S : Type 0} (remaining : S → Option (List ℕ)) where
             (above, long_plain max (rest s.pieces) none above, refl),
         open',
       )
-
-  module _ (s : LineState S) (t : ReaderState S Lines) (whole : IsLineReader s) where
-    -- where a line is handed out of what is buffered none is being skipped, and it isn't the last one
-    module _ (line : List ℕ) (next : NextPiece remaining (lined s.pieces.decoder.max) s.pieces (Ok (Some line)) t)
-        (same : t.reader ≡ s.pieces.reader) where
-      open_found : s.skipping ≡ false
-      open_found =
-          let all = PiecesWent-unasked remaining _ s.pieces t next.bytes next.went (ap (λ r. r.log) same) in
-          let some : 0 < length next.bytes = elim next.answers.1 [
-            | inl (is, going, none) ↦ omega (arith, ap length is.2, length-append line (newline ∷ []))
-            | inr (last, part, some, none, ended, met) ↦ some
-          ] in
-          open_left s whole (omega (arith, some, ap length all, length-append next.bytes (rest t)))
-
-    abbrev after : LineState S
-    after = record { pieces = t; skipping = s.skipping }
-
-    -- by what `step_buffered` answers
-    pub NextBufferedLine-of : (found : Option Span)
-        → pieces.NextBuffered remaining (lined s.pieces.decoder.max) s.pieces (buffered_answer found t) t
-        → NextBufferedLine remaining s (buffered_answer found t) after
-    NextBufferedLine-of (Some span) (next, same) =
-        record { piece = (next, same); open' = open_found (bytes_at span t.reader.block.bytes) next same; skipping = refl }
-    NextBufferedLine-of None (stays, none) = record { piece = (stays, none); open' = tt; skipping = refl }
 
   -- an `Ok` of a reader of lines is one of a reader of pieces
   pub piece_loaded : (s t : ReaderState S Lines) (found : Option Span)

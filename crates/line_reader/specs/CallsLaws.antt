@@ -7,7 +7,7 @@ use Rattle.std.specs.List.{sum_by}
 use Rattle.std.specs.declared.io.Error.{Error}
 use Rattle.piece_reader.specs.DelimitedLaws.{isnt_end}
 use Rattle.piece_reader.specs.NextPiece.{MetEnd, PiecesWent, empty_reads}
-use Rattle.piece_reader.specs.PiecesWentLaws.{PiecesWent-joins, PiecesWent-none, PiecesWent-unasked}
+use Rattle.piece_reader.specs.PiecesWentLaws.{PiecesWent-joins, PiecesWent-unasked}
 use Rattle.piece_reader.specs.PieceReader.{ReaderState, rest}
 use Rattle.piece_reader.specs.StaysLeftLaws.{StaysLeft-went}
 use Rattle.piece_reader.specs.Trimming.{IsTrimmed}
@@ -111,11 +111,6 @@ module _ {S : Type 0} (remaining : S → Option (List ℕ)) where
     told = λ ended. same ∙ ended;
     ends = omega (arith, ap pending same, went.grows.zero_reads);
   }
-
-  -- no call does nothing
-  pub LinesAlong-none : (s : LineState S) → LinesAlong remaining [] s [] [] s
-  LinesAlong-none s = LinesAlong-still s s [] no_line (λ _. refl)
-      (PiecesWent-none remaining (1 + s.pieces.decoder.max) s.pieces) refl
 
   pub LinesAlong-joins : (s m t : LineState S) (before mid after : List ℕ) (first later : List Event)
       → LinesAlong remaining before s first mid m → LinesAlong remaining mid m later after t
