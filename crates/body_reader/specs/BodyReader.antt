@@ -183,23 +183,27 @@ module _ {S Q C P W : Type 0} (remaining : S → Option (List ℕ)) (rules : Rea
         × EachGave s.reader t.reader))
 
   -- how it ends that payload is collected, of which so much is there: the body ended; or none comes; or some is buffered, with
-  -- which it would be more than so many bytes, or it would fit and memory for it was refused
-  abbrev pub CollectEnds : ℕ → BodyState S Q C P → List ℕ → Result (Unit {0}) (CollectError W) → BodyState S Q C P → Type 0
-  CollectEnds most s all (Ok _) t = EachGave s.reader t.reader × TookWholeBody g t
-  CollectEnds most s all (Err (collect.Body why)) t = NoPayload g s why t
-  CollectEnds most s all (Err collect.TooLong) t =
+  -- which it would be more than so many bytes, or it would fit and memory for it was refused, or it mayn't be
+  abbrev pub CollectEnds : (List ℕ → Type 0) → ℕ → BodyState S Q C P → List ℕ → Result (Unit {0}) (CollectError W)
+      → BodyState S Q C P → Type 0
+  CollectEnds Allowed most s all (Ok _) t = EachGave s.reader t.reader × TookWholeBody g t
+  CollectEnds Allowed most s all (Err (collect.Body why)) t = NoPayload g s why t
+  CollectEnds Allowed most s all (Err collect.TooLong) t =
       EachGave s.reader t.reader × (0 < t.known) × (most < length all + t.known)
-  CollectEnds most s all (Err collect.Memory) t =
+  CollectEnds Allowed most s all (Err collect.Memory) t =
       EachGave s.reader t.reader × (0 < t.known) × (length all + t.known ≤ most)
+  CollectEnds Allowed most s all (Err collect.Refused) t = EachGave s.reader t.reader × (0 < t.known)
+      × (length all + t.known ≤ most) × ¬ Allowed (all ++ take t.known t.reader.block.bytes)
 
-  -- the rest of the body was taken, and its payload appended, or why not: of no more bytes than fit so many
-  pub record Collects (most : ℕ) (s : BodyState S Q C P) (before : List ℕ) (answer : Result (Unit {0}) (CollectError W))
-      (t : BodyState S Q C P) (after : List ℕ) : Type 0 where
+  -- the rest of the body was taken, and its payload appended, or why not: of what may be, no more bytes than fit so many
+  pub record Collects (Allowed : List ℕ → Type 0) (most : ℕ) (s : BodyState S Q C P) (before : List ℕ)
+      (answer : Result (Unit {0}) (CollectError W)) (t : BodyState S Q C P) (after : List ℕ) : Type 0 where
     pub payload : List ℕ
-    pub takes : TakesTo (λ _. ⊤) s payload t
+    pub takes : TakesTo (λ came. Allowed (before ++ came)) s payload t
     pub collected : after ≡ before ++ payload
     pub few : 0 < length payload → length after ≤ most
-    pub ends : CollectEnds most s after answer t
+    pub allowed : Allowed after
+    pub ends : CollectEnds Allowed most s after answer t
 
   -- what `read_buffered` does, which left the slice as out: payload that is buffered is handed out, as much as the slice takes.
   -- Less comes only where the body ended, or what is buffered settles nothing, or is wrong. The stream isn't asked. Where so much

@@ -10,6 +10,9 @@ abbrev pub EndsPart : List ℕ → Part → List ℕ → List ℕ → Type 0
 EndsPart needle Inside rest payload = (rest ≡ payload ++ needle) × Nowhere (OccursAt rest needle) 0 (length payload)
 EndsPart needle Behind rest payload = (rest ≡ []) × (payload ≡ [])
 
+abbrev pub IsNowhereIn : List ℕ → List ℕ → Type 0
+IsNowhereIn needle bytes = (k : ℕ) → ¬ OccursAt bytes needle k
+
 -- the delimiter begins in none of these bytes, whatever goes on as what follows
 abbrev pub IsClear : List ℕ → Part → List ℕ → List ℕ → Type 0
 IsClear needle Inside bytes follow =

@@ -3,6 +3,7 @@
 //! A [`BodyReader`] hands out the payload of one body, and leaves what follows the body in the buffered reader.
 #![tactic(auto)]
 
+mod allows;
 mod by_byte;
 mod coding;
 mod either;
@@ -15,6 +16,7 @@ mod sized;
 mod steps;
 mod until;
 
+pub use allows::Allows;
 pub use by_byte::{ByByte, ByteCoding, Turn};
 pub use coding::{Coding, Look};
 pub use either::{Either, Side};

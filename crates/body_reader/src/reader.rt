@@ -1,5 +1,5 @@
 //! The reader of a body.
-ghost use Rattle.std.specs.Prelude.{◌≡◌, ℕ, List, [], ◌+◌, ◌-◌, ◌<◌, ◌≤◌, ◌↔◌, ◌++◌, length, min, take, vec_capacity, vec_items, Err, IfErr, IfOk, IsOkAnd, IsTrue, MatchResult, Ok, OnOk};
+ghost use Rattle.std.specs.Prelude.{◌≡◌, ℕ, List, [], ◌+◌, ◌-◌, ◌<◌, ◌≤◌, ◌↔◌, ◌++◌, length, min, take, vec_capacity, vec_items, Err, IfErr, IfOk, IsOkAnd, IsTrue, MatchResult, Ok, OnOk, ⊤};
 ghost use Rattle.std.specs.Borrow.{Lends, sem};
 ghost use Rattle.body_reader.specs.contracts.reader.BodyReader.{the_row};
 ghost use Rattle.buffer_redux.specs.Block.{Reserves, capacity_for};
@@ -12,6 +12,7 @@ ghost use Rattle.body_reader.specs.BodyReader.{BodyState, Collects, ConsumesPayl
 
 mod streams;
 
+use crate::allows::{Allows, Anything};
 use crate::coding::{Coding, Look};
 use crate::error::{BodyError, CollectError};
 use crate::progress::Progress;
@@ -301,8 +302,28 @@ impl<R: TellRead, C: Coding, P: ReaderPolicy> BodyReader<R, C, P> {
         ensures ended { OnOk result (IsBody (C.grammar self.old.coding) self.new.taken self.new.calls.reads.given) }
         ensures full { IfErr result (λ e. e ≡ CollectError.Memory
             → vec_capacity out.old < length (vec_items out.new) + self.new.known) }
-        ensures collects { Collects R.remaining P.rules (C.grammar self.old.coding) most self.old (vec_items out.old) result
-            self.new (vec_items out.new) }
+        ensures collects { Collects R.remaining P.rules (C.grammar self.old.coding) (λ _. ⊤) most self.old
+            (vec_items out.old) result self.new (vec_items out.new) }
+    {
+        self.collect_while(&Anything, most, out)
+    }
+
+    /// The same, while all that is in `out` then is allowed: of a piece with which it isn't no byte is taken.
+    pub fn collect_while<A: Allows>(
+        &mut self,
+        allows: &A,
+        most: usize,
+        out: &mut Vec<u8>,
+    ) -> Result<(), CollectError<C::Wrong>>
+        requires { A.allowed allows.now (vec_items out.old) }
+        ensures appended { (payload : List ℕ) × (vec_items out.new ≡ vec_items out.old ++ payload)
+            × (0 < length payload → length (vec_items out.new) ≤ most)
+            × (self.new.calls.reads.given ≡ self.old.calls.reads.given ++ payload) }
+        ensures ended { OnOk result (IsBody (C.grammar self.old.coding) self.new.taken self.new.calls.reads.given) }
+        ensures full { IfErr result (λ e. e ≡ CollectError.Memory
+            → vec_capacity out.old < length (vec_items out.new) + self.new.known) }
+        ensures collects { Collects R.remaining P.rules (C.grammar self.old.coding) (A.allowed allows.now) most self.old
+            (vec_items out.old) result self.new (vec_items out.new) }
     {
         // Says that the reader is whole, also where nothing comes.
         let _ = self.get_ref();
@@ -311,11 +332,18 @@ impl<R: TellRead, C: Coding, P: ReaderPolicy> BodyReader<R, C, P> {
             if came == 0 {
                 return Ok(());
             }
-            if came > most.saturating_sub(out.len()) {
+            let known = out.len();
+            if came > most.saturating_sub(known) {
                 return Err(CollectError::TooLong);
             }
             match out.extend_from_slice(self.piece()) {
-                Ok(()) => self.consume_payload(came),
+                Ok(()) => {
+                    if !allows.allows(out, known) {
+                        out.truncate(known);
+                        return Err(CollectError::Refused);
+                    }
+                    self.consume_payload(came);
+                }
                 Err(_) => return Err(CollectError::Memory),
             }
         }

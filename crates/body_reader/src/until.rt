@@ -1,6 +1,6 @@
 //! The coding of a body that ends at a delimiter.
-ghost use Rattle.std.specs.Prelude.{◌≡◌, ◌<◌, length};
-ghost use Rattle.body_reader.specs.Until.{MayBegin};
+ghost use Rattle.std.specs.Prelude.{◌≡◌, ◌<◌, ◌≤◌, length, take, MatchBool};
+ghost use Rattle.body_reader.specs.Until.{IsNowhereIn, MayBegin};
 
 use crate::coding::{Coding, Look};
 use memchr::memmem::{Finder, FinderBuilder};
@@ -23,6 +23,17 @@ impl Until {
         Until {
             delimiter: FinderBuilder::new().build_forward_owned(delimiter),
         }
+    }
+
+    /// Whether the delimiter stands nowhere in these bytes, as it doesn't in the first `known`. Of those no more are searched
+    /// again than it has.
+    pub fn is_nowhere_in(&self, bytes: &[u8], known: usize) -> bool
+        requires within { known ≤ length bytes.now }
+        requires known { IsNowhereIn self.now.delimiter (take known bytes.now) }
+        ensures { MatchBool result (IsNowhereIn self.now.delimiter bytes.now) (¬ IsNowhereIn self.now.delimiter bytes.now) }
+    {
+        let searched = known.saturating_sub(self.delimiter.needle().len());
+        self.delimiter.find(&bytes[searched..]).is_none()
     }
 }
 

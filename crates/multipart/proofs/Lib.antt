@@ -1,3 +1,2 @@
-mod Collecting
 mod Parting
 mod Turning

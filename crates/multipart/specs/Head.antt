@@ -1,13 +1,11 @@
 -- How a head begins, its fields, and the parameters of a value.
-use Rattle.std.specs.Prelude.{◌≡◌, ℕ, ◌+◌, ◌-◌, ◌<◌, ◌≤◌, ◌==◌, ◌||◌, ◌&&◌, List, [], ◌∷◌, ◌++◌, length, take, drop, Bool, false, IsTrue, not, if◌then◌else◌, nat_eq, IsSomeAnd, Option, None, slice_index, slice_index_or, find, position}
+use Rattle.std.specs.Prelude.{ℕ, ◌+◌, ◌-◌, ◌==◌, ◌||◌, ◌&&◌, List, [], ◌∷◌, length, take, drop, Bool, false, IsTrue, not, if◌then◌else◌, nat_eq, Option, slice_index, slice_index_or, find, position}
 use Rattle.std.specs.Borrow.{Bor}
 use Rattle.std.specs.Char.{is_ascii_whitespace}
 use Rattle.std.specs.List.{filter_map, onto_first, prefix_len, starts_with, suffix_len}
 use Rattle.std.specs.Option.{option_map}
 use Rattle.std.specs.Str.{str_eq_ignore_ascii_case}
-use Rattle.memchr.specs.Find.{OccursAt}
-use Rattle.multipart.specs.declared.error.PartError.{PartError}
-use Rattle.multipart.specs.declared.error.PartError.TheVariants.{Boundary, LongHead, ManyParts, Memory}
+use Rattle.body_reader.specs.Until.{IsNowhereIn}
 use Rattle.multipart.specs.declared.head.Place.{Place}
 use Rattle.multipart.specs.declared.head.Place.TheVariants.{Line, Return, Outside, Quoted}
 
@@ -23,17 +21,7 @@ is_opening head = let rest = drop (prefix_len is_blank head) head in (length res
 
 -- a head is so: it begins so, and what ends a text, a boundary that begins a line, stands nowhere in it
 abbrev pub IsPartHead : List ℕ → List ℕ → Type 0
-IsPartHead boundary head = IsTrue (is_opening head) × ((k : ℕ) → ¬ OccursAt head boundary k)
-
--- why a head, of which this came, takes no such piece: it may have no byte; it would have more than it may; memory for as many
--- was refused; or no head begins so
-abbrev pub RefusesPiece : List ℕ → Option ℕ → List ℕ → List ℕ → PartError → Type 0
-RefusesPiece boundary most head piece ManyParts = most ≡ None
-RefusesPiece boundary most head piece LongHead = IsSomeAnd most (λ n. n < length head + length piece)
-RefusesPiece boundary most head piece Memory = IsSomeAnd most (λ n. length head + length piece ≤ n)
-RefusesPiece boundary most head piece Boundary =
-    IsSomeAnd most (λ n. length head + length piece ≤ n) × ¬ IsPartHead boundary (head ++ piece)
-RefusesPiece boundary most head piece e = ⊥
+IsPartHead boundary head = IsTrue (is_opening head) × IsNowhereIn boundary head
 
 -- without ASCII white space around it
 abbrev pub trimmed : List ℕ → List ℕ

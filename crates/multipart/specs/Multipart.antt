@@ -1,5 +1,5 @@
 -- What contracts see of a reader of parts, and what its calls promise.
-use Rattle.std.specs.Prelude.{◌≡◌, ◌≢◌, ℕ, ◌+◌, ◌<◌, ◌≤◌, ◌⊎◌, List, [], ◌∷◌, ◌++◌, length, take, Bool, true, false, if◌then◌else◌, nat_le, IsSomeAnd, Option, None, Some, Result, Ok, Err}
+use Rattle.std.specs.Prelude.{◌≡◌, ◌≢◌, ℕ, ◌+◌, ◌<◌, ◌≤◌, ◌⊎◌, List, [], ◌∷◌, length, Bool, true, false, if◌then◌else◌, nat_le, Option, Result, Ok, Err}
 use Rattle.std.specs.IoError.{error_kind}
 use Rattle.std.specs.declared.io.Error.{Error}
 use Rattle.std.specs.declared.io.ErrorKind.TheVariants.{InvalidData, OutOfMemory, UnexpectedEof}
@@ -7,10 +7,11 @@ use Rattle.buffer_redux.specs.Buffered.{Buffered}
 use Rattle.buffer_redux.specs.Policy.{ReadRules}
 use Rattle.body_reader.specs.declared.error.BodyError.{BodyError}
 use Rattle.body_reader.specs.declared.error.BodyError.TheVariants as why
+use Rattle.body_reader.specs.declared.error.CollectError.{CollectError}
+use Rattle.body_reader.specs.declared.error.CollectError.TheVariants as collect
 use Rattle.body_reader.specs.declared.just_or_until.JustOr.{JustOr}
 use Rattle.body_reader.specs.declared.just_or_until.JustOrUntil.{JustOrUntil}
-use Rattle.body_reader.specs.Between.{EachGave}
-use Rattle.body_reader.specs.BodyReader.{BodyState, Drains, NoPayload, TakesTo, TookWholeBody, begun, handed_of}
+use Rattle.body_reader.specs.BodyReader.{BodyState, Collects, Drains, begun, handed_of}
 use Rattle.body_reader.specs.Coding.{Grammar, IsBody}
 use Rattle.body_reader.specs.JustOrUntil.{just_or_until}
 use Rattle.multipart.specs.declared.error.NewError.{NewError}
@@ -20,7 +21,7 @@ use Rattle.multipart.specs.declared.error.PartError.TheVariants as part
 use Rattle.multipart.specs.declared.reader.Limits.{Limits}
 use Rattle.multipart.specs.declared.reader.Stand.{Stand}
 use Rattle.multipart.specs.declared.reader.Stand.TheVariants.{Preamble, Head, Part, Ended}
-use Rattle.multipart.specs.Head.{IsPartHead, RefusesPiece, crlf}
+use Rattle.multipart.specs.Head.{IsPartHead, crlf}
 
 -- where a reader stands in a section
 abbrev pub Section : Type 0 → Type 0 → Type 0
@@ -47,9 +48,9 @@ hyphens = 45 ∷ 45 ∷ []
 abbrev pub is_full : {S Q : Type 0} → FormState S Q → Bool
 is_full d = nat_le d.limits.parts d.parts
 
--- how many bytes a head may have behind so many parts, where there may be a further one
-abbrev pub head_most : Limits → ℕ → Option ℕ
-head_most limits parts = if nat_le limits.parts parts then None else Some limits.head
+-- how many bytes a head may have: none, where there may be no further part
+abbrev pub head_most : {S Q : Type 0} → FormState S Q → ℕ
+head_most d = if is_full d then 0 else d.limits.head
 
 -- an empty line ends a head. Behind as many parts as may be there is none but two hyphens: each byte else is payload at once, of
 -- which there may be none
@@ -117,6 +118,14 @@ part_error (why.Wrong w right) = part.Boundary
 part_error (why.Truncated right) = part.Truncated
 part_error (why.Io e) = part.Io e
 
+-- why a head wasn't collected, where there may be no further part or there may
+abbrev pub head_error : Bool → CollectError (Unit {0}) → PartError
+head_error full (collect.Body e) = part_error e
+head_error true collect.TooLong = part.ManyParts
+head_error false collect.TooLong = part.LongHead
+head_error full collect.Memory = part.Memory
+head_error full collect.Refused = part.Boundary
+
 -- an error of the whole as one of std's streams: a stream's own is the same
 abbrev pub PartBecomesIo : PartError → Error → Type 0
 PartBecomesIo (part.Io same) e = e ≡ same
@@ -141,27 +150,18 @@ module _ {S Q : Type 0} (remaining : S → Option (List ℕ)) (rules : ReadRules
   LeavesText s (Err e) t = (w : BodyError (Unit {0})) × Drains remaining rules (codes s.body.coding) s.body (Err w) t.body
       × (e ≡ part_error w) × (t ≡ record s { body = t.body })
 
-  module _ (boundary : List ℕ) (most : Option ℕ) (s : Section S Q) where
-    -- how it ends that a head is collected: it ended; or no more of it comes; or what is buffered of it is refused
-    abbrev pub HeadEnds : List ℕ → Result (Unit {0}) PartError → Section S Q → Type 0
-    HeadEnds head (Ok _) t = EachGave s.reader t.reader × TookWholeBody (codes t.coding) t
-    HeadEnds head (Err e) t = ((w : BodyError (Unit {0})) × (e ≡ part_error w) × NoPayload (codes s.coding) s w t)
-        ⊎ (EachGave s.reader t.reader × (0 < t.known) × RefusesPiece boundary most head (take t.known t.reader.block.bytes) e)
+  -- the head was collected, while it may go on so. The stream is asked only where nothing was settled, and no piece is cut. What
+  -- is refused stays buffered
+  abbrev pub CollectsHead : FormState S Q → Result (Unit {0}) (CollectError (Unit {0})) → FormState S Q → Type 0
+  CollectsHead s answer t = (t ≡ record s { body = t.body; head = t.head })
+      × Collects remaining rules (codes s.body.coding) (IsPartHead s.other.until.delimiter) (head_most s) s.body s.head answer
+      t.body t.head
 
-    -- a head was collected to its end, while it may go on so, or why not: of no more bytes than so many, or of none. The stream
-    -- is asked only where nothing was settled, and no piece is cut. What is refused stays buffered
-    pub record CollectsHead (before : List ℕ) (answer : Result (Unit {0}) PartError) (t : Section S Q) (after : List ℕ) : Type 0
-      where
-        pub payload : List ℕ
-        pub takes : TakesTo remaining rules (codes s.coding) (λ came. IsPartHead boundary (before ++ came)) s payload t
-        pub collected : after ≡ before ++ payload
-        pub few : 0 < length payload → IsSomeAnd most (λ n. length after ≤ n)
-        pub is_head : IsPartHead boundary after
-        pub ends : HeadEnds after answer t
-
+  -- to its end, or why not
   abbrev pub CollectsOn : FormState S Q → Result (Unit {0}) PartError → FormState S Q → Type 0
-  CollectsOn s answer t = (t ≡ record s { body = t.body; head = t.head })
-      × CollectsHead s.other.until.delimiter (head_most s.limits s.parts) s.body s.head answer t.body t.head
+  CollectsOn s (Ok _) t = CollectsHead s (Ok tt) t
+  CollectsOn s (Err e) t =
+      (why : CollectError (Unit {0})) × (e ≡ head_error (is_full s) why) × CollectsHead s (Err why) t
 
   -- from a head on
   abbrev pub GoesOnFromHead : FormState S Q → Result Bool PartError → FormState S Q → Type 0

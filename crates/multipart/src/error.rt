@@ -1,7 +1,8 @@
 //! Why a multipart body can't be read.
 ghost use Rattle.std.specs.Prelude.{◌≡◌};
+ghost use Rattle.multipart.specs.Multipart.{head_error};
 
-use body_reader::BodyError;
+use body_reader::{BodyError, CollectError};
 use std::error::Error;
 use std::io::ErrorKind;
 use std::{fmt, io};
@@ -49,6 +50,21 @@ impl From<BodyError<()>> for PartError {
             BodyError::Wrong(_, _) => PartError::Boundary,
             BodyError::Truncated(_) => PartError::Truncated,
             BodyError::Io(e) => PartError::Io(e),
+        }
+    }
+}
+
+impl PartError {
+    // Why a head can't be collected, of which no byte may be where there may be no further part.
+    pub(crate) fn of_head(e: CollectError<()>, full: bool) -> PartError
+        ensures { result ≡ head_error full e }
+    {
+        match e {
+            CollectError::Body(e) => PartError::from(e),
+            CollectError::TooLong if full => PartError::ManyParts,
+            CollectError::TooLong => PartError::LongHead,
+            CollectError::Memory => PartError::Memory,
+            CollectError::Refused => PartError::Boundary,
         }
     }
 }

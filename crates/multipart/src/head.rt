@@ -4,6 +4,8 @@ ghost use Rattle.std.specs.List.{prefix_len};
 ghost use Rattle.std.specs.Option.{option_copied, option_map, option_map_or};
 ghost use Rattle.multipart.specs.Head.{as_pair, as_parameter, texts_of, cut, field_of, is_blank, closes, is_opening, parameter_of, next_place, unquoted};
 
+use body_reader::{Allows, JustOrUntil};
+
 // Whether a byte is a space or a tab.
 fn is_blank(byte: u8) -> bool
     ensures { result ≡ is_blank byte }
@@ -12,21 +14,36 @@ fn is_blank(byte: u8) -> bool
 }
 
 // How many blanks stand in front.
-pub(crate) fn blanks_len(text: &[u8]) -> usize
+fn blanks_len(text: &[u8]) -> usize
     ensures value { result ≡ prefix_len is_blank text.now }
     ensures within { result ≤ length text.now }
 {
     text.iter().take_while(|byte| is_blank(**byte)).count()
 }
 
-// Whether a head, in front of which so many blanks stand, begins as the line of a boundary ends: with blanks or none, and then
-// the end of the line, or nothing.
-pub(crate) fn is_opening(head: &[u8], blanks: usize) -> bool
-    requires { blanks ≡ prefix_len is_blank head.now }
+// Whether a head begins as the line of a boundary ends: with blanks or none, and then the end of the line, or nothing.
+fn is_opening(head: &[u8]) -> bool
     ensures { result ≡ is_opening head.now }
 {
-    let rest = &head[blanks..];
+    let rest = &head[blanks_len(head)..];
     rest.is_empty() || rest.starts_with(b"\r\n")
+}
+
+/// What may be the head of a part, where texts end so: it begins as the line of a boundary ends, and no boundary stands in it.
+#[derive(Drop)]
+pub(crate) struct PartHead<'a> {
+    pub texts: &'a JustOrUntil,
+}
+
+impl Allows for PartHead<'_> {
+    ghost use Rattle.multipart.specs.Head.{IsPartHead};
+
+    ghost allowed = { λ h. IsPartHead h.texts.now.until.delimiter };
+
+    // Blanks in front, which a gateway may add, are passed each time.
+    fn allows(&self, head: &[u8], known: usize) -> bool {
+        is_opening(head) && self.texts.until.is_nowhere_in(head, known)
+    }
 }
 
 // What stands before the first such byte, and behind it, without white space around that.

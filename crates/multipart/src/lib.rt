@@ -3,7 +3,6 @@
 //! A part needn't fit in memory: its text is handed out as it comes, and its end told as soon as it is there.
 #![tactic(auto)]
 
-mod collected;
 mod error;
 mod head;
 mod reader;

@@ -1,10 +1,10 @@
 //! The reader of parts.
 ghost use Rattle.std.specs.Prelude.{[], ◌≡◌, ◌≢◌, ◌<◌, ◌≤◌, ◌+◌, ◌⊎◌, ◌∷◌, ◌++◌, length, min, false, take, vec_items, Ok, IfErr, IfOk, IfSome, MatchBool};
 ghost use Rattle.body_reader.specs.BodyReader.{ConsumesPayload, FillsPayload, IsBodyReader, ReadsPayload, TookWholeBody};
-ghost use Rattle.multipart.specs.Multipart.{AreCodings, CollectsOn, EndsHead, GoesOnFromHead, IsBegun, IsForm, LeavesText, NextPart, NoReaderMade, TurnsLast, codes, head_most, is_full};
+ghost use Rattle.multipart.specs.Multipart.{AreCodings, CollectsOn, EndsHead, GoesOnFromHead, IsBegun, IsForm, LeavesText, NextPart, NoReaderMade, PassesText, TurnsLast, codes, head_most, is_full};
 
-use crate::collected::Collected;
 use crate::error::{NewError, PartError};
+use crate::head::PartHead;
 use body_reader::{BodyError, BodyReader, JustOrUntil, Until};
 use buffer_redux::BufReader;
 use buffer_redux::policy::{ReaderPolicy, StdPolicy};
@@ -44,7 +44,7 @@ pub struct Multipart<R: Tell, P = StdPolicy> {
     body: BodyReader<R, JustOrUntil, P>,
     // The coding of what comes behind: heads and texts come by turns.
     other: JustOrUntil,
-    head: Collected,
+    head: Vec<u8>,
     stand: Stand,
     parts: u64,
     limits: Limits,
@@ -58,7 +58,7 @@ impl<R: Tell, P> Model for Multipart<R, P> {
     ghost view = { λ m. record {
       body = m.body;
       other = m.other;
-      head = m.head.bytes.items;
+      head = m.head.items;
       stand = m.stand;
       parts = m.parts;
       limits = m.limits;
@@ -67,7 +67,7 @@ impl<R: Tell, P> Model for Multipart<R, P> {
     ghost invariant = { λ m. IsForm (record {
       body = m.body;
       other = m.other;
-      head = m.head.bytes.items;
+      head = m.head.items;
       stand = m.stand;
       parts = m.parts;
       limits = m.limits;
@@ -100,7 +100,7 @@ impl<R: Tell, P> Multipart<R, P> {
             Some((texts, heads)) => Ok(Multipart {
                 body: BodyReader::new(reader, texts),
                 other: heads,
-                head: Collected::new(alloc),
+                head: Vec::new(alloc),
                 stand: Stand::Preamble,
                 parts: 0,
                 limits,
@@ -146,7 +146,7 @@ impl<R: Tell, P> Multipart<R, P> {
     pub fn head(&self) -> &[u8]
         ensures { result.now ≡ self.now.head }
     {
-        self.head.bytes.as_slice()
+        self.head.as_slice()
     }
 
     /// The text of the part that is buffered, as far as the last [`fill`](Multipart::fill) said, and wasn't consumed; none where
@@ -264,11 +264,18 @@ impl<R: TellRead, P: ReaderPolicy> Multipart<R, P> {
         match self.stand {
             Stand::Ended => Ok(false),
             Stand::Head => self.go_on(),
-            Stand::Preamble | Stand::Part => {
-                self.leave_text()?;
-                self.go_on()
-            }
+            Stand::Preamble => self.pass_text(),
+            Stand::Part => self.pass_text(),
         }
+    }
+
+    // Goes on into the part behind this text.
+    fn pass_text(&mut self) -> Result<bool, PartError>
+        requires text { (self.old.stand ≡ Stand.Preamble) ⊎ (self.old.stand ≡ Stand.Part) }
+        ensures { PassesText R.remaining P.rules self.old result self.new }
+    {
+        self.leave_text()?;
+        self.go_on()
     }
 
     // Goes on into the part behind this head.
@@ -287,15 +294,11 @@ impl<R: TellRead, P: ReaderPolicy> Multipart<R, P> {
         self.parts >= self.limits.parts
     }
 
-    // How many bytes a head may have, if there may be a further part.
-    fn most(&self) -> Option<usize>
-        ensures { result ≡ head_most self.now.limits self.now.parts }
+    // How many bytes a head may have.
+    fn most(&self) -> usize
+        ensures { result ≡ head_most self.now }
     {
-        if self.is_full() {
-            None
-        } else {
-            Some(self.limits.head)
-        }
+        if self.is_full() { 0 } else { self.limits.head }
     }
 
     // Goes on behind the boundary that ends this text.
@@ -312,14 +315,18 @@ impl<R: TellRead, P: ReaderPolicy> Multipart<R, P> {
         Ok(())
     }
 
-    // Collects the head while it may go on so.
+    // Collects the head while it may go on so: none, where there may be no further part.
     fn collect(&mut self) -> Result<(), PartError>
         requires head { self.old.stand ≡ Stand.Head }
         ensures { CollectsOn R.remaining P.rules self.old result self.new }
     {
+        let full = self.is_full();
         let most = self.most();
         let texts = &self.other;
-        self.head.collect(&mut self.body, most, texts)
+        match self.body.collect_while(&PartHead { texts }, most, &mut self.head) {
+            Ok(()) => Ok(()),
+            Err(e) => Err(PartError::of_head(e, full)),
+        }
     }
 
     // Goes on into the part behind this head, or says that there is none.
