@@ -7,7 +7,7 @@ use Rattle.std.specs.declared.io.ErrorKind.TheVariants.{WriteZero}
 use Rattle.buffer_redux.specs.Block.{IsBlock}
 use Rattle.buffer_redux.specs.Buffered.{Buffered}
 use Rattle.buffer_redux.specs.BufWriter.{WasFlushed}
-use Rattle.buffer_redux.specs.Copy.{CopyBuf}
+use Rattle.buffer_redux.specs.Copy.{CopyBuf, CopyRows}
 use Rattle.buffer_redux.specs.Policy.{std_read_rules, std_write_rules}
 use Rattle.buffer_redux.specs.ReaderTells.{ReaderWent, reader_log}
 use Rattle.buffer_redux.specs.StreamLog.{StreamLog}
@@ -99,7 +99,10 @@ module _ {R W : Type 0} (remaining : R → Option (List ℕ)) (tells : W → Str
       (λ takes. omega (arith, copy.one_end takes))
 
   -- all that a copy comes to
-  pub copies_say : (answer : Result ℕ Error) (v : Buffered W StdPolicy) → CopiesAll remaining tells trace answer s s' t v
+  pub copies_say : (copying answer : Result ℕ Error) (m v : Buffered W StdPolicy) → Copies copying m
+      → CopyRows reader_log writer_log (ReaderWent remaining std_read_rules) (WriterWent trace std_write_rules)
+      (WriterCalled tells trace std_write_rules) copying (record { source = s; target = t }) (record { source = s'; target = m })
+      → WriterWent trace std_write_rules t m → Ends copying answer m v
       → record {
         a_beginning : IsBeginning s.log s'.log t.log v.log;
         copied : IfOk answer (λ total. Copied total s.log s'.log t.log v.log);
@@ -109,16 +112,23 @@ module _ {R W : Type 0} (remaining : R → Option (List ℕ)) (tells : W → Str
         offers : (s'.log.reads ≡ s.log.reads) ⊎ (s'.log.reads.offer ≡ s.block.capacity);
         sends : HoldsBackAtMost (most_held t.block.capacity) s.log s'.log t.log v.log;
       }
-  copies_say answer v all =
-      let came = comes all.copied v all.target
-      (copy_holds remaining tells trace went all.target source.bytes target.bytes whole all.copying all.copy all.turns)
-      all.copying answer all.copy all.ended in
+  copies_say copying answer m v copy turns went' ended =
+      let came = comes m v went' (copy_holds remaining tells trace went went' source.bytes target.bytes whole copying copy turns)
+      copying answer copy ended in
       record {
         a_beginning = came.0;
         copied = came.1;
         stopped = came.2;
-        once = ends_once all.copying all.copied all.target all.copy;
-        all = all;
+        once = ends_once copying m went' copy;
+        all = record {
+          copying = copying;
+          copied = m;
+          copy = copy;
+          turns = turns;
+          source = went;
+          target = went';
+          ended = ended;
+        };
         offers = offers_all went whole;
         sends = came.3;
       }

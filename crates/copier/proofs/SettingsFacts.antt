@@ -1,30 +1,7 @@
 -- What the words after the program's name can be.
-use Rattle.std.proofs.Common.{◌≡◌, ◌↔◌, ℕ, ◌<◌, ◌≤◌, Bool, false, List, [], ◌∷◌, map, length, get_or, Option, Some, None, unwrap_or, refl, sym, ap, ◌∙◌, arith, inl, inr}
+use Rattle.std.proofs.Common.{◌≡◌, ◌↔◌, ℕ, ◌<◌, ◌≤◌, Bool, false, List, [], ◌∷◌, map, length, get_or, Option, Some, None, unwrap_or, sym, ap, ◌∙◌, arith, inl, inr}
 use Rattle.std.specs.Str.Parse.{digits_value}
-use Rattle.copier.specs.Settings.{IsCapacity, NamesBuffer, AskFor}
-
--- the four forms that words which ask for something have
-data Form (words : List (List ℕ)) (ring : Bool) (capacity : ℕ) : Type 0 where
-  bare : words ≡ [] → ring ≡ false → capacity ≡ 8192 → Form words ring capacity
-  named : (word : List ℕ)
-      → words ≡ word ∷ [] → NamesBuffer word ring → capacity ≡ 8192 → Form words ring capacity
-  sized : (word : List ℕ) → words ≡ word ∷ [] → ring ≡ false → IsCapacity word
-      → capacity ≡ digits_value 10 word → Form words ring capacity
-  both : (first last : List ℕ) → words ≡ first ∷ last ∷ [] → NamesBuffer first ring → IsCapacity last
-      → capacity ≡ digits_value 10 last → Form words ring capacity
-
-form_of : (words : List (List ℕ)) (ring : Bool) (capacity : ℕ)
-    → AskFor words ring capacity → Form words ring capacity
-form_of words ring capacity ask = elim ask.buffer [
-  | inl f ↦ elim ask.room [
-    | inl l ↦ bare (ask.all ∙ cc) f.1 l.1
-    | inr l ↦ sized l.0 (ask.all ∙ cc) f.1 l.2 l.3
-  ]
-  | inr f ↦ elim ask.room [
-    | inl l ↦ named f.0 (ask.all ∙ cc) f.2 l.1
-    | inr l ↦ both f.0 l.0 (ask.all ∙ cc) f.2 l.2 l.3
-  ]
-]
+use Rattle.copier.specs.Settings.{AskFor, IsCapacity, NamesBuffer}
 
 no_digit_first : (word : List ℕ) (c : ℕ) (cs : List ℕ) → word ≡ c ∷ cs → 57 < c → ¬ IsCapacity word
 no_digit_first word c cs e high is =
@@ -66,84 +43,29 @@ abbrev pub Tells : List (List ℕ) → Option (Bool × ℕ) → Type 0
 Tells words answer =
     (ring : Bool) (capacity : ℕ) → (answer ≡ Some (ring, capacity)) ↔ AskFor words ring capacity
 
-some_named : (words : List (List ℕ)) (word : List ℕ) (a b : Bool) (m n : ℕ)
-    → words ≡ word ∷ [] → NamesBuffer word a → m ≡ 8192 → Form words b n → asked a m ≡ asked b n
-some_named words word a b m n e name size (bare e' ring size') = cc
-some_named words word a b m n e name size (named word' e' name' size') =
-    let same : word' ≡ word = cc in
-    asked_same a b m n (one_name word a b name (rw (sym same) name')) (size ∙ sym size')
-some_named words word a b m n e name size (sized word' e' ring is value) =
-    let same : word ≡ word' = cc in
-    absurd (named_not_sized word' a (rw (sym same) name) is)
-some_named words word a b m n e name size (both first last e' name' is value) = cc
-
-pub tells_named : (words : List (List ℕ)) (word : List ℕ) (ring : Bool)
-    → words ≡ word ∷ [] → NamesBuffer word ring → Tells words (Some (ring, 8192))
-tells_named words word a e name b n = (
-  λ same.
-      rw (same_ring a b 8192 n same, same_capacity a b 8192 n same) (record {
-        first = word ∷ [];
-        last = [];
-        all = e;
-        buffer = inr (word, refl, name);
-        room = inl (refl, refl);
-      }),
-  λ ask. some_named words word a b 8192 n e name refl (form_of words b n ask),
+pub tells_named : (word : List ℕ) (ring : Bool) → NamesBuffer word ring → Tells (word ∷ []) (Some (ring, 8192))
+tells_named word a name b n = (
+  λ same. inl (rw (same_ring a b 8192 n same) name, same_capacity a b 8192 n same),
+  λ ask. elim ask [
+    | inl (other, size) ↦ asked_same a b 8192 n (one_name word a b name other) (sym size)
+    | inr (none, is) ↦ absurd (named_not_sized word a name is.0)
+  ],
 )
 
-none_alone : (words : List (List ℕ)) (word : List ℕ) (ring : Bool) (n : ℕ)
-    → words ≡ word ∷ [] → ((a : Bool) → ¬ NamesBuffer word a) → ¬ IsCapacity word → Form words ring n → ⊥
-none_alone words word ring n e unnamed unsized (bare e' f size) = cc
-none_alone words word ring n e unnamed unsized (named word' e' name size) =
-    let same : word' ≡ word = cc in
-    unnamed ring (rw (sym same) name)
-none_alone words word ring n e unnamed unsized (sized word' e' f is value) =
-    let same : word' ≡ word = cc in
-    unsized (rw (sym same) is)
-none_alone words word ring n e unnamed unsized (both first last e' name is value) = cc
+pub tells_none_alone : (word : List ℕ) → ((a : Bool) → ¬ NamesBuffer word a) → ¬ IsCapacity word → Tells (word ∷ []) None
+tells_none_alone word unnamed unsized ring n = (
+  λ same. cc,
+  λ ask. elim ask [ inl (name, size) ↦ absurd (unnamed ring name) | inr (none, is) ↦ absurd (unsized is.0) ],
+)
 
-pub tells_none_alone : (words : List (List ℕ)) (word : List ℕ)
-    → words ≡ word ∷ [] → ((a : Bool) → ¬ NamesBuffer word a) → ¬ IsCapacity word → Tells words None
-tells_none_alone words word e unnamed unsized ring n =
-    (λ same. cc, λ ask. absurd (none_alone words word ring n e unnamed unsized (form_of words ring n ask)))
+pub tells_none_named : (v w : List ℕ) → ((a : Bool) → ¬ NamesBuffer v a) → Tells (v ∷ w ∷ []) None
+tells_none_named v w unnamed ring n = (λ same. cc, λ ask. absurd (unnamed ring ask.0))
 
-none_named : (words : List (List ℕ)) (v w : List ℕ) (ring : Bool) (n : ℕ)
-    → words ≡ v ∷ w ∷ [] → ((a : Bool) → ¬ NamesBuffer v a) → Form words ring n → ⊥
-none_named words v w ring n e unnamed (bare e' f size) = cc
-none_named words v w ring n e unnamed (named word' e' name size) = cc
-none_named words v w ring n e unnamed (sized word' e' f is value) = cc
-none_named words v w ring n e unnamed (both first last e' name is value) =
-    let same : first ≡ v = cc in
-    unnamed ring (rw (sym same) name)
-
-pub tells_none_named : (words : List (List ℕ)) (v w : List ℕ)
-    → words ≡ v ∷ w ∷ [] → ((a : Bool) → ¬ NamesBuffer v a) → Tells words None
-tells_none_named words v w e unnamed ring n =
-    (λ same. cc, λ ask. absurd (none_named words v w ring n e unnamed (form_of words ring n ask)))
-
-some_both : (words : List (List ℕ)) (v w : List ℕ) (a b : Bool) (m n : ℕ)
-    → words ≡ v ∷ w ∷ [] → NamesBuffer v a → m ≡ digits_value 10 w → Form words b n → asked a m ≡ asked b n
-some_both words v w a b m n e name size (bare e' ring size') = cc
-some_both words v w a b m n e name size (named word' e' name' size') = cc
-some_both words v w a b m n e name size (sized word' e' ring is value) = cc
-some_both words v w a b m n e name size (both first last e' name' is value) =
-    let same : first ≡ v = cc in
-    let rest : last ≡ w = cc in
-    asked_same a b m n (one_name v a b name (rw (sym same) name'))
-    (size ∙ ap (digits_value 10) (sym rest) ∙ sym value)
-
-pub tells_both : (words : List (List ℕ)) (v w : List ℕ) (ring : Bool) (m : ℕ) → words ≡ v ∷ w ∷ []
-    → NamesBuffer v ring → IsCapacity w → m ≡ digits_value 10 w → Tells words (Some (ring, m))
-tells_both words v w a m e name is size b n = (
-  λ same.
-      rw (same_ring a b m n same, same_capacity a b m n same) (record {
-        first = v ∷ [];
-        last = w ∷ [];
-        all = e;
-        buffer = inr (v, refl, name);
-        room = inr (w, refl, is, size);
-      }),
-  λ ask. some_both words v w a b m n e name size (form_of words b n ask),
+pub tells_both : (v w : List ℕ) (ring : Bool) (m : ℕ) → NamesBuffer v ring → IsCapacity w → m ≡ digits_value 10 w
+    → Tells (v ∷ w ∷ []) (Some (ring, m))
+tells_both v w a m name is size b n = (
+  λ same. (rw (same_ring a b m n same) name, (is, same_capacity a b m n same ∙ size)),
+  λ ask. asked_same a b m n (one_name v a b name ask.0) (size ∙ sym ask.1.1),
 )
 
 -- a list with one item, and with two
@@ -164,7 +86,10 @@ module _ {X : Type 0} (f : X → List ℕ) where
 -- a capacity that is asked for is in range
 pub asked_in_range : (words : List (List ℕ)) (ring : Bool) (capacity : ℕ)
     → AskFor words ring capacity → (1 ≤ capacity) × (capacity ≤ 1048576)
-asked_in_range words ring capacity ask = elim ask.room [
-  | inl none ↦ (omega (arith, none.1), omega (arith, none.1))
-  | inr one ↦ (omega (arith, one.2.not_zero, one.3), omega (arith, one.2.not_large, one.3))
-]
+asked_in_range [] ring capacity (none, size) = (omega (arith, size), omega (arith, size))
+asked_in_range (word ∷ []) ring capacity (inl (name, size)) = (omega (arith, size), omega (arith, size))
+asked_in_range (word ∷ []) ring capacity (inr (none, (is, size))) =
+    (omega (arith, is.not_zero, size), omega (arith, is.not_large, size))
+asked_in_range (first ∷ last ∷ []) ring capacity (name, (is, size)) =
+    (omega (arith, is.not_zero, size), omega (arith, is.not_large, size))
+asked_in_range (first ∷ last ∷ next ∷ words) ring capacity ask = absurd ask

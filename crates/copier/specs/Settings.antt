@@ -1,5 +1,5 @@
 -- What the words after the program's name ask for.
-use Rattle.std.specs.Prelude.{◌≡◌, ◌≤◌, ◌⊎◌, ℕ, Bool, true, false, List, [], ◌∷◌, ◌++◌, length, codes}
+use Rattle.std.specs.Prelude.{◌≡◌, ◌≤◌, ◌⊎◌, ℕ, Bool, true, false, List, [], ◌∷◌, length, codes}
 use Rattle.std.specs.Str.Parse.{digits_value}
 use Rattle.programs.specs.Words.{IsNumber}
 
@@ -14,12 +14,14 @@ pub record IsCapacity (word : List ℕ) : Type 0 where
 abbrev pub NamesBuffer : List ℕ → Bool → Type 0
 NamesBuffer word ring = ((word ≡ codes "ring") × (ring ≡ true)) ⊎ ((word ≡ codes "std") × (ring ≡ false))
 
--- first no word, where no ring is wanted, or one that names the buffer; then no word, where the capacity is 8192, or one that is
--- the capacity; and nothing else
-pub record AskFor (words : List (List ℕ)) (ring : Bool) (capacity : ℕ) : Type 0 where
-  pub first : List (List ℕ)
-  pub last : List (List ℕ)
-  pub all : words ≡ first ++ last
-  pub buffer : ((first ≡ []) × (ring ≡ false)) ⊎ ((word : List ℕ) × (first ≡ word ∷ []) × NamesBuffer word ring)
-  pub room : ((last ≡ []) × (capacity ≡ 8192))
-      ⊎ ((word : List ℕ) × (last ≡ word ∷ []) × IsCapacity word × (capacity ≡ digits_value 10 word))
+-- the word is this capacity
+abbrev pub SaysCapacity : List ℕ → ℕ → Type 0
+SaysCapacity word capacity = IsCapacity word × (capacity ≡ digits_value 10 word)
+
+-- no word asks for no ring, and 8192 bytes; one names the buffer, or is the capacity; and two do both, in this order
+abbrev pub AskFor : List (List ℕ) → Bool → ℕ → Type 0
+AskFor [] ring capacity = (ring ≡ false) × (capacity ≡ 8192)
+AskFor (word ∷ []) ring capacity =
+    (NamesBuffer word ring × (capacity ≡ 8192)) ⊎ ((ring ≡ false) × SaysCapacity word capacity)
+AskFor (first ∷ last ∷ []) ring capacity = NamesBuffer first ring × SaysCapacity last capacity
+AskFor words ring capacity = ⊥
