@@ -9,7 +9,7 @@ ghost use Rattle.programs.specs.Streams.{RefusedBeforeCalls, capacity_asked, kin
 ghost use Rattle.programs.specs.TakenIn.{TakesAll};
 
 use buffer_redux::tell::{TellRead, TellWrite};
-use buffer_redux::{BufReader, BufWriter, GrowError, MakeError};
+use buffer_redux::{BufReader, BufWriter, Buffer, GrowError, MakeError};
 use std::alloc::Global;
 use std::io;
 
@@ -35,33 +35,13 @@ pub fn buffered<R: TellRead, W: TellWrite>(
     ensures written { IfOk result (λ b. b.1.log ≡ W.log writer) }
     ensures refused { IfErr result (λ e. RefusedBeforeCalls e.0 (R.log reader) (R.log e.1) (W.log writer) (W.log e.2)) }
 {
-    let source = match buffered_reader(alloc, ring, capacities.0, reader) {
+    let source = match new_buffer(alloc, ring, capacities.0) {
         Ok(source) => source,
-        Err(MakeError(reader, e)) => return Err((io::Error::from(e), reader, writer)),
+        Err(e) => return Err((e.into(), reader, writer)),
     };
     match buffered_writer(alloc, ring, capacities.1, writer) {
-        Ok(target) => Ok((source, target)),
-        Err(MakeError(writer, e)) => Err((io::Error::from(e), source.into_inner(), writer)),
-    }
-}
-
-fn buffered_reader<R: TellRead>(
-    alloc: Global,
-    ring: bool,
-    cap: usize,
-    reader: R,
-) -> Result<BufReader<R>, MakeError<R>>
-    requires { cap ≤ GREATEST_CAPACITY }
-    ensures made { IfOk result (λ r. IsNew (kind_asked ring) (capacity_asked ring cap) r.block) }
-    ensures inner { IfOk result (λ r. r.inner ≡ reader) }
-    ensures log { IfOk result (λ r. r.log ≡ R.log reader) }
-    ensures handed_back { IfErr result (λ e. e.0 ≡ reader) }
-    ensures refused { IfErr result (λ e. e.1 ≡ GrowError.Memory) }
-{
-    if ring {
-        BufReader::with_capacity_ringbuf(alloc, cap, reader)
-    } else {
-        BufReader::with_capacity(alloc, cap, reader)
+        Ok(target) => Ok((BufReader::with_buffer(source, reader), target)),
+        Err(MakeError(writer, e)) => Err((e.into(), reader, writer)),
     }
 }
 
@@ -79,10 +59,21 @@ pub fn buffered_writer<W: TellWrite>(
     ensures handed_back { IfErr result (λ e. e.0 ≡ writer) }
     ensures refused { IfErr result (λ e. e.1 ≡ GrowError.Memory) }
 {
+    match new_buffer(alloc, ring, cap) {
+        Ok(target) => Ok(BufWriter::with_buffer(target, writer)),
+        Err(e) => Err(MakeError(writer, e)),
+    }
+}
+
+fn new_buffer(alloc: Global, ring: bool, cap: usize) -> Result<Buffer, GrowError>
+    requires { cap ≤ GREATEST_CAPACITY }
+    ensures made { IfOk result (IsNew (kind_asked ring) (capacity_asked ring cap)) }
+    ensures refused { IfErr result (λ e. e ≡ GrowError.Memory) }
+{
     if ring {
-        BufWriter::with_capacity_ringbuf(alloc, cap, writer)
+        Buffer::with_capacity_ringbuf(alloc, cap)
     } else {
-        BufWriter::with_capacity(alloc, cap, writer)
+        Buffer::with_capacity(alloc, cap)
     }
 }
 
