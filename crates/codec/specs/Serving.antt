@@ -1,5 +1,5 @@
 -- What a server does, whatever its pieces are.
-use Rattle.std.specs.Prelude.{◌≡◌, ℕ, ◌+◌, ◌^◌, ◌≤◌, ◌⊎◌, List, [], ◌∷◌, ◌++◌, length, Bool, true, false, Option, None, Some, Result, Ok, Err}
+use Rattle.std.specs.Prelude.{◌≡◌, ℕ, ◌+◌, ◌^◌, ◌≤◌, ◌⊎◌, List, [], ◌∷◌, ◌++◌, length, Bool, true, false, not, MatchBool, Option, None, Some, Result, Ok, Err}
 use Rattle.std.specs.List.{All}
 use Rattle.std.specs.declared.io.Error.{Error}
 use Rattle.buffer_redux.specs.Buffered.{Buffered}
@@ -52,6 +52,17 @@ Converses {A} item_of Answers a (x ∷ earlier) more b =
 -- its bytes are a piece with its payload, or a last one
 abbrev pub IsWholeExchange : {W : Type 0} → Grammar W → Exchange → Type 0
 IsWholeExchange g x = g.piece x.bytes x.payload ⊎ g.last x.bytes x.payload
+
+-- whether all was flushed as serving ended so: before the stream was asked for its end, which wasn't told already
+abbrev pub is_flushed : Served → Bool → Bool
+is_flushed served.End told = not told
+is_flushed ended told = false
+
+-- the writer was flushed, unless all was
+abbrev pub FlushesLast : {T P : Type 0} → (T → StreamLog) → (T → T → Type 0) → Bool → Buffered T P → Result (Unit {0}) Error
+    → Buffered T P → Type 0
+FlushesLast tells trace flushed w answer v =
+    MatchBool flushed ((answer ≡ Ok tt) × (v ≡ w)) (WasFlushed tells trace w answer v)
 
 module _ {S D W I A T P : Type 0} (remaining : S → Option (List ℕ)) (tells : T → StreamLog) (trace : T → T → Type 0)
     (g : Grammar W) (item_of : List ℕ → I) (Answers : A → I → List ℕ → List ℕ → Bool → A → Type 0) where
@@ -111,12 +122,12 @@ module _ {S D W I A T P : Type 0} (remaining : S → Option (List ℕ)) (tells :
     pub talked : Talked s exchanges more last
     pub ends : EndedBy ended exchanges more last t
 
-  -- what serving did: exchanges up to an end, and then one flush. What was taken is their pieces, and no byte of another; and
-  -- all answers were received and flushed
+  -- what serving did: exchanges up to an end, behind which it flushed, unless all was. What was taken is their pieces, and no
+  -- byte of another; and all answers were received and flushed
   pub record Serves (s : Server S D A T P) (ended : Served) (t : Server S D A T P) : Type 0 where
     pub answers : Buffered T P
     pub ends : ServingEnds s ended (server t.pieces t.service answers)
-    pub last : WasFlushed tells trace answers (Ok tt) t.answers
+    pub last : FlushesLast tells trace (is_flushed ended ends.last.pieces.ended) answers (Ok tt) t.answers
     pub taken : PiecesWent remaining g.most s.pieces (joined_parts (λ x. x.bytes) ends.exchanges) t.pieces
     pub service : Converses item_of Answers s.service ends.exchanges ends.more t.service
     pub all : FlushedAlong tells trace std_write_rules s.answers (joined_parts (λ x. x.reply) ends.exchanges) t.answers
@@ -142,7 +153,8 @@ module _ {S D W I A T P : Type 0} (remaining : S → Option (List ℕ)) (tells :
     -- how they failed: the flush behind an end did, or a turn
     abbrev pub FailedBy : ServeError W F → List Exchange → Bool → Server S D A T P → Server S D A T P → Type 0
     FailedBy (Flush ended e) exchanges more s t = (m : Server S D A T P) × EndedBy ended exchanges more s m
-        × (t.pieces ≡ m.pieces) × (t.service ≡ m.service) × WasFlushed tells trace m.answers (Err e) t.answers
+        × (t.pieces ≡ m.pieces) × (t.service ≡ m.service)
+        × FlushesLast tells trace (is_flushed ended s.pieces.ended) m.answers (Err e) t.answers
     FailedBy e exchanges more s t = (more ≡ true) × ServesTurn s (Err e) t
 
     -- serving failed: exchanges, and then that

@@ -1,21 +1,22 @@
 -- Laws of a server's turns.
-use Rattle.std.specs.Prelude.{◌≡◌, ℕ, ◌⊎◌, List, [], ◌∷◌, Bool, true, Option, Ok, Err}
+use Rattle.std.specs.Prelude.{◌≡◌, ℕ, ◌⊎◌, List, [], ◌∷◌, Bool, true, false, not, Option, Ok, Err}
 use Rattle.std.specs.declared.io.Error.{Error}
 use Rattle.std.proofs.lemmas.List.Elements.{All-cons, All-nil}
-use Rattle.std.proofs.Common.{ap, append-nil, inl, inr, refl, subst, sym}
+use Rattle.std.proofs.Common.{ap, append-nil, arith, inl, inr, refl, subst, sym}
 use Rattle.buffer_redux.specs.Buffered.{Buffered}
-use Rattle.buffer_redux.specs.BufWriter.{WasFlushed, WritesAlong}
+use Rattle.buffer_redux.specs.BufWriter.{FlushedAlong, WasFlushed, WritesAlong}
 use Rattle.buffer_redux.specs.Policy.{std_write_rules}
 use Rattle.buffer_redux.specs.StreamLog.{StreamLog}
-use Rattle.buffer_redux.specs.WritesAlongLaws.{FlushedAlong-of, WasFlushed-along, WritesAlong-joins, WritesAlong-none, WritesAlong-then}
+use Rattle.buffer_redux.specs.WritesAlongLaws.{FlushedAlong-all, FlushedAlong-of, WasFlushed-along, WritesAlong-joins, WritesAlong-none, WritesAlong-then}
 use Rattle.codec.specs.AnsweringLaws.{WritesOnce-along}
 use Rattle.codec.specs.ServingAllLaws.{Exchanged-joins, Exchanged-none}
 use Rattle.codec.specs.Fetching.{FlushedFirst}
 use Rattle.piece_reader.specs.Grammar.{Grammar}
 use Rattle.piece_reader.specs.NextPiece.{PiecesWent}
+use Rattle.piece_reader.specs.NextPieceLaws.{MetEnd-once}
 use Rattle.piece_reader.specs.PiecesWentLaws.{PiecesWent-joins, PiecesWent-none}
 use Rattle.piece_reader.specs.PieceReader.{ReaderState}
-use Rattle.codec.specs.Serving.{Converses, EndedBy, Exchange, Exchanged, FailedBy, IsWholeExchange, Server, Serves, ServesTurn, ServingEnds, ServingFails, Talked, joined_parts, server}
+use Rattle.codec.specs.Serving.{Converses, EndedBy, Exchange, Exchanged, FailedBy, FlushesLast, IsWholeExchange, Server, Serves, ServesTurn, ServingEnds, ServingFails, Talked, is_flushed, joined_parts, server}
 use Rattle.codec.specs.declared.serving.ServeError.{ServeError}
 use Rattle.codec.specs.declared.serving.ServeError.TheVariants.{Failed, Flush, Read, Write, Wrong}
 use Rattle.codec.specs.declared.serving.Served.{Served}
@@ -33,6 +34,10 @@ module _ {S D W I A F T P : Type 0} (remaining : S → Option (List ℕ)) (tells
   turn_failed_so exchanges s t (Write e) turn = (refl, turn)
   turn_failed_so exchanges s t (Failed why) turn = (refl, turn)
   turn_failed_so exchanges s t (Flush ended e) turn = absurd turn
+
+untold : (told : Bool) → not told ≡ true → told ≡ false
+untold true is = (let odd : false ≡ true = is in cc)
+untold false is = refl
 
 module _ {S D W I A T P : Type 0} (remaining : S → Option (List ℕ)) (tells : T → StreamLog) (trace : T → T → Type 0)
     (g : Grammar W) (item_of : List ℕ → I) (Answers : A → I → List ℕ → List ℕ → Bool → A → Type 0)
@@ -89,7 +94,22 @@ module _ {S D W I A T P : Type 0} (remaining : S → Option (List ℕ)) (tells :
       )
       ends_so served.Many exchanges more m t (is, many, same) = still m t same
 
-      -- up to an end, and then a flush
+      -- where the stream was asked for its end all was flushed before
+      flushed_so : (by : Served) (exchanges : List Exchange) (more : Bool) (m t : Server S D A T P)
+          → EndedBy remaining tells trace g item_of Answers by exchanges more m t → is_flushed by m.pieces.ended ≡ true
+          → WasFlushed tells trace m.answers (Ok tt) t.answers
+      flushed_so served.Closed exchanges more m t ends is = (let odd : false ≡ true = is in cc)
+      flushed_so served.Many exchanges more m t ends is = (let odd : false ≡ true = is in cc)
+      flushed_so served.End exchanges more m t (one, took) is = elim took.fetched.first [
+        | inl same ↦ absurd (omega (
+          arith,
+          MetEnd-once m.pieces t.pieces (untold m.pieces.ended is) took.fetched.next.answers.4,
+          ap (λ l. l.reads.zero_reads) same.1,
+        ))
+        | inr flushed ↦ flushed.1
+      ]
+
+      -- up to an end, and then a flush, unless all was flushed
       module _ (by : Served) (t : Server S D A T P) (ends : ServingEnds remaining tells trace g item_of Answers s by t)
           (v : Buffered T P) where
         so : PiecesWent remaining g.most ends.last.pieces [] t.pieces × (t.service ≡ ends.last.service)
@@ -99,21 +119,33 @@ module _ {S D W I A T P : Type 0} (remaining : S → Option (List ℕ)) (tells :
         talked : Exchanged remaining tells trace g item_of Answers s ends.exchanges ends.more ends.last
         talked = Talked-exchanged ends.exchanges ends.more ends.last ends.talked
 
-        pub ServingEnds-served : WasFlushed tells trace t.answers (Ok tt) v
+        along : WritesAlong tells trace std_write_rules s.answers (joined_parts (λ x. x.reply) ends.exchanges) t.answers
+        along = WritesAlong-then tells trace std_write_rules joins s.answers ends.last.answers t.answers
+            (joined_parts (λ x. x.reply) ends.exchanges) talked.along so.2
+
+        all_so : (flushed : Bool) → is_flushed by ends.last.pieces.ended ≡ flushed
+            → FlushesLast tells trace flushed t.answers (Ok tt) v
+            → FlushedAlong tells trace std_write_rules s.answers (joined_parts (λ x. x.reply) ends.exchanges) v
+        all_so true is (ok, same) =
+            let f = flushed_so by ends.exchanges ends.more ends.last t ends.ends is in
+            subst (FlushedAlong tells trace std_write_rules s.answers (joined_parts (λ x. x.reply) ends.exchanges)) (sym same)
+            (FlushedAlong-all tells trace std_write_rules joins s.answers t.answers (joined_parts (λ x. x.reply) ends.exchanges)
+            along f.ok.empty f.ok.flushed)
+        all_so false is flushed = FlushedAlong-of tells trace std_write_rules joins s.answers t.answers v
+            (joined_parts (λ x. x.reply) ends.exchanges) tt along flushed
+
+        pub ServingEnds-served : (flushed : Bool) → flushed ≡ is_flushed by ends.last.pieces.ended
+            → FlushesLast tells trace flushed t.answers (Ok tt) v
             → Serves remaining tells trace g item_of Answers s by (server t.pieces t.service v)
-        ServingEnds-served flushed = record {
+        ServingEnds-served flushed is last = record {
           answers = t.answers;
           ends = ends;
-          last = flushed;
+          last = subst (λ b. FlushesLast tells trace b t.answers (Ok tt) v) is last;
           taken = subst (λ l. PiecesWent remaining g.most s.pieces l t.pieces) (append-nil _)
               (PiecesWent-joins remaining g.most s.pieces ends.last.pieces t.pieces
               (joined_parts (λ x. x.bytes) ends.exchanges) [] talked.taken so.0);
           service = subst (λ b. Converses item_of Answers s.service ends.exchanges ends.more b) (sym so.1) talked.service;
-          all = FlushedAlong-of tells trace std_write_rules joins s.answers t.answers v
-              (joined_parts (λ x. x.reply) ends.exchanges)
-              tt (WritesAlong-then tells trace std_write_rules joins s.answers ends.last.answers t.answers
-              (joined_parts (λ x. x.reply) ends.exchanges) talked.along so.2)
-              flushed;
+          all = all_so flushed (sym is) last;
         }
 
       module _ {F : Type 0} (Fails : A → I → List ℕ → F → A → Type 0) where
@@ -134,8 +166,9 @@ module _ {S D W I A T P : Type 0} (remaining : S → Option (List ℕ)) (tells :
         -- up to an end, behind which the flush failed
         pub ServingEnds-failed : (by : Served) (t : Server S D A T P)
             (ends : ServingEnds remaining tells trace g item_of Answers s by t)
-            (v : Buffered T P) (why : Error) → WasFlushed tells trace t.answers (Err why) v
+            (v : Buffered T P) (why : Error) → false ≡ is_flushed by ends.last.pieces.ended
+            → WasFlushed tells trace t.answers (Err why) v
             → ServingFails remaining tells trace g item_of Answers Fails s (Flush by why) (server t.pieces t.service v)
-        ServingEnds-failed by t ends v why flushed =
+        ServingEnds-failed by t ends v why is flushed =
             stops ends.exchanges ends.more ends.last ends.talked (Flush by why) (server t.pieces t.service v)
-            (t, ends.ends, refl, refl, flushed)
+            (t, ends.ends, refl, refl, subst (λ b. FlushesLast tells trace b t.answers (Err why) v) is flushed)

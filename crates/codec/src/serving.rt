@@ -5,7 +5,7 @@ ghost use Rattle.buffer_redux.specs.Faults.{IsInterrupt};
 ghost use Rattle.codec.specs.declared.serving.ServeError.TheVariants.{Read};
 ghost use Rattle.codec.specs.Answering.{IsPieceRead, WasAnswered};
 ghost use Rattle.codec.specs.ServingAll.{NotInterrupted, ServesAll, StopsAll};
-ghost use Rattle.codec.specs.Serving.{Serves, ServesTurn, ServingEnds, ServingFails, server};
+ghost use Rattle.codec.specs.Serving.{Serves, ServesTurn, ServingEnds, ServingFails, is_flushed, server};
 
 use crate::answering::AnswerError;
 use crate::fetching::fetch_item;
@@ -77,7 +77,7 @@ pub enum Step {
 }
 
 /// Answers the pieces of a stream, one after another, up to its end or where `service` takes no further piece. Answers are
-/// flushed where the stream is asked for more, and only there, and once all is answered.
+/// flushed where the stream is asked for more, and behind an end for which it wasn't asked, and only there.
 ///
 /// A piece is answered once, and the next one begins just behind it. After a [`ServeError::Read`] this may be called again, and
 /// goes on where it was, also in the middle of a piece.
@@ -94,10 +94,13 @@ pub fn serve<R: TellRead, D: Items, W: TellWrite, S: Service<D>>(
         (D.item_of reader.old.decoder) S.answers S.fails (server reader.old service.old writer.old) e
         (server reader.new service.new writer.new)) }
 {
-    let ended = answer_pieces(service, reader, writer)?;
+    let ends = answer_pieces(service, reader, writer)?;
+    if ends.1 {
+        return Ok(ends.0);
+    }
     match writer.flush() {
-        Ok(()) => Ok(ended),
-        Err(e) => Err(ServeError::Flush(ended, e)),
+        Ok(()) => Ok(ends.0),
+        Err(e) => Err(ServeError::Flush(ends.0, e)),
     }
 }
 
@@ -135,27 +138,28 @@ fn was_interrupted<W, F>(served: &Result<Served, ServeError<W, F>>) -> bool
     }
 }
 
-// Serves, but for the last flush.
+// Serves, but for the last flush; and says whether all was flushed, as it is where the stream was asked for its end.
 fn answer_pieces<R: TellRead, D: Items, W: TellWrite, S: Service<D>>(
     service: &mut S,
     reader: &mut PieceReader<R, D>,
     writer: &mut BufWriter<W>,
-) -> Result<Served, ServeError<D::Wrong, S::Failure>>
-    ensures ended { IfOk result (λ ended. ServingEnds R.remaining W.log W.trace (D.grammar reader.old.decoder)
-        (D.item_of reader.old.decoder) S.answers (server reader.old service.old writer.old) ended
-        (server reader.new service.new writer.new)) }
+) -> Result<(Served, bool), ServeError<D::Wrong, S::Failure>>
+    ensures ended { IfOk result (λ by. (ends : ServingEnds R.remaining W.log W.trace (D.grammar reader.old.decoder)
+        (D.item_of reader.old.decoder) S.answers (server reader.old service.old writer.old) by.0
+        (server reader.new service.new writer.new)) × (by.1 ≡ is_flushed by.0 ends.last.pieces.ended)) }
     ensures failed { IfErr result (λ e. ServingFails R.remaining W.log W.trace (D.grammar reader.old.decoder)
         (D.item_of reader.old.decoder) S.answers S.fails (server reader.old service.old writer.old) e
         (server reader.new service.new writer.new)) }
 {
     for _turn in 0..u64::MAX {
+        let told = reader.has_ended();
         match turn(service, reader, writer)? {
             Step::Went => {}
-            Step::Closed => return Ok(Served::Closed),
-            Step::End => return Ok(Served::End),
+            Step::Closed => return Ok((Served::Closed, false)),
+            Step::End => return Ok((Served::End, !told)),
         }
     }
-    Ok(Served::Many)
+    Ok((Served::Many, false))
 }
 
 // Takes one piece, and answers it.
