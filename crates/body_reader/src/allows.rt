@@ -14,7 +14,7 @@ pub trait Allows {
 }
 
 /// Any bytes may.
-pub(crate) struct Anything;
+pub struct Anything;
 
 impl Allows for Anything {
     ghost allowed = { λ _ bytes. ⊤ };

@@ -31,7 +31,7 @@ fn is_opening(head: &[u8]) -> bool
 
 /// What may be the head of a part, where texts end so: it begins as the line of a boundary ends, and no boundary stands in it.
 #[derive(Drop)]
-pub(crate) struct PartHead<'a> {
+pub struct PartHead<'a> {
     pub texts: &'a JustOrUntil,
 }
 

@@ -322,8 +322,8 @@ impl<R: TellRead, P: ReaderPolicy> Multipart<R, P> {
     {
         let full = self.is_full();
         let most = self.most();
-        let texts = &self.other;
-        match self.body.collect_while(&PartHead { texts }, most, &mut self.head) {
+        let may_be = PartHead { texts: &self.other };
+        match self.body.collect_while(&may_be, most, &mut self.head) {
             Ok(()) => Ok(()),
             Err(e) => Err(PartError::of_head(e, full)),
         }

@@ -1,8 +1,10 @@
 -- From the text of a part to the next part.
-use Rattle.std.proofs.Common.{◌≡◌, ◌<◌, length, length-append, Bool, ℕ, List, [], ◌∷◌, ◌++◌, take, Option, Result, Ok, Err, true, false, inl, inr, ◌⊎◌, sym, ap, subst, ◌∙◌, refl, arith, append-nil, append_assoc}
-use Rattle.std.proofs.lemmas.Bool.{leb-true}
+use Rattle.std.proofs.Common.{◌≡◌, ◌<◌, length, length-append, Bool, ℕ, List, [], ◌∷◌, ◌++◌, if◌then◌else◌, Option, Result, Ok, Err, true, false, inl, inr, ◌⊎◌, sym, ap, subst, ◌∙◌, refl, arith, append-nil, append_assoc}
+use Rattle.std.proofs.lemmas.Bool.{leb-false, leb-true}
 use Rattle.body_reader.specs.declared.error.BodyError.{BodyError}
 use Rattle.body_reader.specs.declared.error.BodyError.TheVariants as why
+use Rattle.body_reader.specs.declared.error.CollectError.{CollectError}
+use Rattle.body_reader.specs.declared.error.CollectError.TheVariants as cause
 use Rattle.body_reader.specs.declared.just_or_until.JustOr.{JustOr}
 use Rattle.body_reader.specs.declared.just_or_until.JustOrUntil.{JustOrUntil}
 use Rattle.body_reader.specs.Between.{EachGave}
@@ -18,8 +20,8 @@ use Rattle.multipart.specs.declared.error.PartError.{PartError}
 use Rattle.multipart.specs.declared.error.PartError.TheVariants as part
 use Rattle.multipart.specs.declared.reader.Limits.{Limits}
 use Rattle.multipart.specs.declared.reader.Stand.TheVariants.{Preamble, Head, Part}
-use Rattle.multipart.specs.Head.{IsPartHead, RefusesPiece}
-use Rattle.multipart.specs.Multipart.{CollectsOn, EndsHead, FormState, GoesOnFromHead, LeavesText, NextPart, PassesText, TurnsLast, codes, head_most, is_full, part_error, turned}
+use Rattle.multipart.specs.Head.{IsPartHead}
+use Rattle.multipart.specs.Multipart.{CollectsHead, EndsHead, FormState, GoesOnFromHead, LeavesText, NextPart, PassesText, TurnsLast, codes, head_error, head_most, is_full, part_error, turned}
 use Rattle.parts.specs.Sections.{BehindText, InHead, InSection, InText, NextFails, PassedAll, Turn}
 
 -- what comes of going on behind a text
@@ -55,16 +57,6 @@ module _ {S : Type 0} (remaining : S → Option (List ℕ)) (texts heads : JustO
       (inside, none.2, GaveNothingOnce-after first s.reader t.body.reader gave none.1)
   no_payload text s t (why.Io e) most inside gave none =
       (inside, inl (none.1, FaultedOnce-after first s.reader t.body.reader gave e none.0))
-
-  refused_fails : (text : List ℕ) (most : Limits) (e : PartError) (t : FormState S StdPolicy)
-      → InHead texts heads first turns text t → RefusesPiece texts.until.delimiter (head_most most (length turns))
-      (handed_of t.body) (take t.body.known t.body.reader.block.bytes) e → NextFails texts heads first turns text most e t
-  refused_fails text most part.Truncated t inside bad = absurd bad
-  refused_fails text most (part.Io e) t inside bad = absurd bad
-  refused_fails text most part.Boundary t inside bad = (inside, bad)
-  refused_fails text most part.LongHead t inside bad = (inside, bad)
-  refused_fails text most part.ManyParts t inside bad = (inside, bad)
-  refused_fails text most part.Memory t inside bad = (inside, bad)
 
   -- calls in the text stay in it
   pub inside_on : (before : List ℕ) (m t : FormState S StdPolicy) (payload : List ℕ)
@@ -130,9 +122,15 @@ module _ {S : Type 0} (remaining : S → Option (List ℕ)) (texts heads : JustO
       still_heads true is' last' less = absurd (omega (arith, leb-true _ _ is', less))
       still_heads false is' last' less = last'
 
+      none : is_full s ≡ true → head_most behind ≡ 0
+      none is' = ap (λ f. if f then 0 else s.limits.head) is'
+
+      few : is_full s ≡ false → head_most behind ≡ s.limits.head
+      few is' = ap (λ f. if f then 0 else s.limits.head) is'
+
       -- a head, which is whole or not
-      module _ {answer : Result (Unit {0}) PartError} {t : FormState S StdPolicy}
-          (head : CollectsOn remaining std_read_rules behind answer t) where
+      module _ {answer : Result (Unit {0}) (CollectError (Unit {0}))} {t : FormState S StdPolicy}
+          (head : CollectsHead remaining std_read_rules behind answer t) where
         said_is : t.head ≡ handed_of t.body
         said_is = head.1.collected ∙ sym head.1.takes.went.handed
 
@@ -168,18 +166,31 @@ module _ {S : Type 0} (remaining : S → Option (List ℕ)) (texts heads : JustO
           gave = head_gave gave';
         }
 
-        refused : (e : PartError) → InHead texts heads first turns (handed_of b) t
-            → RefusesPiece b.coding.until.delimiter (head_most s.limits s.parts) t.head
-            (take t.body.known t.body.reader.block.bytes) e → Comes (Err e) t
-        refused e inside why = refused_fails (handed_of b) s.limits e t inside (rw (← boundary, ← said_is, ← is.counted) why)
+      fails : (full : Bool) → is_full s ≡ full → (why : CollectError (Unit {0})) (t : FormState S StdPolicy)
+          → CollectsHead remaining std_read_rules behind (Err why) t → Comes (Err (head_error full why)) t
+      fails full is' (cause.Body w) t head = stops head w head.1.ends
+      fails true is' cause.TooLong t head =
+          (in_head head head.1.ends.1 head.1.ends.0, omega (arith, leb-true _ _ is', is.counted))
+      fails false is' cause.TooLong t head = (
+        in_head head head.1.ends.1 head.1.ends.0,
+        omega (arith, leb-false _ _ is', is.counted),
+        omega (arith, head.1.ends.2, few is', ap length (said_is head)),
+      )
+      fails true is' cause.Memory t head = absurd (omega (arith, head.1.ends.1, head.1.ends.2, none is'))
+      fails false is' cause.Memory t head = (
+        in_head head head.1.ends.1 head.1.ends.0,
+        omega (arith, leb-false _ _ is', is.counted),
+        omega (arith, head.1.ends.2, few is', ap length (said_is head)),
+      )
+      fails true is' cause.Refused t head = absurd (omega (arith, head.1.ends.1, head.1.ends.2, none is'))
+      fails false is' cause.Refused t head = (
+        in_head head head.1.ends.1 head.1.ends.0,
+        omega (arith, leb-false _ _ is', is.counted),
+        omega (arith, head.1.ends.2, few is', ap length (said_is head)),
+        rw (← boundary, ← said_is head) head.1.ends.3,
+      )
 
-      fails : (e : PartError) (t : FormState S StdPolicy) → CollectsOn remaining std_read_rules behind (Err e) t → Comes (Err e) t
-      fails e t head = elim head.1.ends [
-        | inl none ↦ subst (λ x. Comes (Err x) t) (sym none.1) (stops head none.0 none.2)
-        | inr bad ↦ refused head e (in_head head bad.1 bad.0) bad.2
-      ]
-
-      module _ {m : FormState S StdPolicy} (head : CollectsOn remaining std_read_rules behind (Ok tt) m) where
+      module _ {m : FormState S StdPolicy} (head : CollectsHead remaining std_read_rules behind (Ok tt) m) where
         ends : (more : Bool) (t : FormState S StdPolicy) → EndsHead m more t → Comes (Ok more) t
         ends true t end =
             let same = still_heads (is_full s) refl last
@@ -200,8 +211,8 @@ module _ {S : Type 0} (remaining : S → Option (List ℕ)) (texts heads : JustO
                   text_whole,
                   record {
                     whole = rw (said_is head)
-                        (subst (λ c. TookWholeBody (codes c) m.body) (head.1.takes.went.coding ∙ same) head.1.ends.1);
-                    is_head = subst (λ d. IsPartHead d m.head) boundary head.1.is_head;
+                        (subst (λ c. TookWholeBody (codes c) m.body) same head.1.ends.1);
+                    is_head = subst (λ d. IsPartHead d m.head) boundary head.1.allowed;
                     no_end = end.0;
                   },
                 );
@@ -221,7 +232,8 @@ module _ {S : Type 0} (remaining : S → Option (List ℕ)) (texts heads : JustO
       goes_on : (answer : Result Bool PartError) (t : FormState S StdPolicy)
           → GoesOnFromHead remaining std_read_rules behind answer t → Comes answer t
       goes_on answer t (inl (m, more, head, end, same)) = subst (λ x. Comes x t) (sym same) (ends head more t end)
-      goes_on answer t (inr (e, head, same)) = subst (λ x. Comes x t) (sym same) (fails e t head)
+      goes_on answer t (inr (e, (why, is', head), same)) =
+          subst (λ x. Comes x t) (sym (same ∙ ap Err is')) (fails (is_full s) refl why t head)
 
     -- what comes of going on to the next part: the text is this, and where it had ended it is what had come
     abbrev NextComes : Result Bool PartError → FormState S StdPolicy → Type 0

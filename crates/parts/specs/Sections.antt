@@ -18,8 +18,8 @@ use Rattle.buffer_redux.specs.Buffered.{Buffered}
 use Rattle.buffer_redux.specs.Policy.{std_read_rules, std_write_rules}
 use Rattle.buffer_redux.specs.StreamLog.{StreamLog}
 use Rattle.buffer_redux.specs.declared.policy.StdPolicy.{StdPolicy}
-use Rattle.multipart.specs.Head.{IsPartHead, RefusesPiece, field_of, parameter_of}
-use Rattle.multipart.specs.Multipart.{FormState, TurnsLast, codes, head_most, hyphens, is_full}
+use Rattle.multipart.specs.Head.{IsPartHead, field_of, parameter_of}
+use Rattle.multipart.specs.Multipart.{FormState, TurnsLast, codes, hyphens, is_full}
 use Rattle.multipart.specs.declared.reader.Limits.{Limits}
 use Rattle.multipart.specs.declared.reader.Stand.TheVariants.{Preamble, Part}
 use Rattle.parts.specs.declared.error.RunError.{RunError}
@@ -110,15 +110,22 @@ module _ (texts heads : JustOrUntil) where
         pub gave : EachGave first t.body.reader
 
       -- why no part comes next: the stream ended within a text or a head, or failed there, or the text is longer than a run
-      -- counts; or what is buffered of a head is refused, also as there are as many parts as these
+      -- counts; or what is buffered of a head is refused: there are as many parts as may be; or with it a head would be longer
+      -- than may be, or memory for that was refused, or no head is so
       abbrev pub NextFails : Limits → PartError → FormState S Q → Type 0
       NextFails limits part.Truncated t =
           InSection t × EndsEarly (codes t.body.coding) t.body × GaveNothingOnce first t.body.reader
       NextFails limits (part.Io e) t = InSection t
           × ((EndsEarly (codes t.body.coding) t.body × FaultedOnce first e t.body.reader)
           ⊎ ((error_kind e ≡ Other) × (2 ^ 64 - 1 ≤ length (handed_of t.body)) × EachGave first t.body.reader))
-      NextFails limits e t = InHead t × RefusesPiece texts.until.delimiter (head_most limits (length turns)) (handed_of t.body)
-          (take t.body.known t.body.reader.block.bytes) e
+      NextFails limits part.ManyParts t = InHead t × (limits.parts ≤ length turns)
+      NextFails limits part.LongHead t =
+          InHead t × (length turns < limits.parts) × (limits.head < length (handed_of t.body) + t.body.known)
+      NextFails limits part.Memory t =
+          InHead t × (length turns < limits.parts) × (length (handed_of t.body) + t.body.known ≤ limits.head)
+      NextFails limits part.Boundary t = InHead t × (length turns < limits.parts)
+          × (length (handed_of t.body) + t.body.known ≤ limits.head)
+          × ¬ IsPartHead texts.until.delimiter (handed_of t.body ++ take t.body.known t.body.reader.block.bytes)
 
 -- in the last of these parts, or before the first
 abbrev pub InTurns : {S : Type 0} → FormState S StdPolicy → List Turn → FormState S StdPolicy → Type 0
