@@ -1,100 +1,122 @@
 //! Readers that are asked for one thing after another.
-use std::io::ErrorKind;
+use buffer_redux::tell::TellRead;
+use std::alloc::Global;
+use std::fmt::{Debug, Display};
 use tests_common::sweep::Came;
+use tests_common::{debug, display, first};
 
-/// A call, and what it is to answer, or what is seen between two calls.
-#[derive(Clone, Copy)]
-pub enum Want<'a> {
-    /// The next piece, with this payload.
-    Next(&'a [u8]),
-    /// The next line without the carriage return before its end.
-    Trimmed(&'a [u8]),
-    /// There is no further one.
-    End,
-    /// The bytes are none.
-    Wrong(Why),
-    /// How many bytes were dropped.
-    Skipped(u64),
-    /// What is buffered and was not handed out.
-    Rest(&'a [u8]),
-    /// The stream was read so often.
-    Asked(usize),
-    /// Whether the next call asks the stream for nothing.
-    Ready(bool),
-    /// The next piece where it is buffered, which asks for nothing.
-    Buffered(Option<&'a [u8]>),
-    /// Whether the stream ended, which no call told.
-    Ended(bool),
-    /// The stream fails so, and the call isn't made again.
-    Failed(ErrorKind),
-    /// It fails in a line that is skipped.
-    Unskipped,
-    /// Whether a line is being skipped.
-    Skipping(bool),
-    /// So many of the bytes that are left were looked at.
-    Looked(usize),
-    /// So many of them are dropped.
-    Dropped(usize),
-    /// Whether something came where nothing was left.
-    Refilled(bool),
-    /// The stream itself gives these bytes.
-    Past(&'a [u8]),
+/// What calls answered. What there is no memory for isn't noted.
+#[derive(Drop)]
+pub struct Log {
+    alloc: Global,
+    text: Vec<u8>,
 }
 
-/// Why bytes are no piece.
-#[derive(Clone, Copy, PartialEq, Eq)]
-pub enum Why {
-    /// A payload has so many bytes, or more than so many.
-    Long(usize),
-    /// No header is there.
-    NoHeader,
-    /// Another tail is.
-    NoTail,
-    /// The stream ended after so many bytes.
-    Truncated(usize),
+impl Log {
+    /// Nothing was noted yet.
+    pub fn new(alloc: Global) -> Log {
+        let text = Vec::new(alloc);
+        Log { alloc, text }
+    }
+
+    /// Notes these bytes.
+    pub fn note(&mut self, bytes: &[u8]) {
+        let _ = self.text.extend_from_slice(bytes);
+    }
+
+    /// Notes what is printed of a value.
+    pub fn show<T: Display>(&mut self, value: &T) {
+        if let Ok(text) = display(self.alloc, value) {
+            self.note(text.as_bytes());
+        }
+    }
+
+    /// Notes what a programmer is shown of it.
+    pub fn show_debug<T: Debug>(&mut self, value: &T) {
+        if let Ok(text) = debug(self.alloc, value) {
+            self.note(text.as_bytes());
+        }
+    }
+
+    /// Whether this was noted.
+    pub fn is(&self, wants: &[u8]) -> bool {
+        self.text.as_slice() == wants
+    }
 }
 
-/// A reader of pieces over a stream that answers by a script.
+/// A reader or a writer over a stream that answers by a script.
 pub trait Asks {
-    /// Makes the call. Whether it answers so, and nothing where the stream failed.
-    fn answers(&mut self, want: Want<'_>) -> Option<bool>;
+    /// Makes the call of this letter, with what is behind it, and notes what it answers. Whether the stream failed.
+    fn ask(&mut self, call: &[u8], log: &mut Log) -> bool;
 
-    /// What is buffered and was not handed out.
-    fn left(&self) -> &[u8];
-
-    /// Whether the next call asks the stream for nothing.
-    fn is_ready(&self) -> bool;
-
-    /// How many bytes each read of the stream was offered.
-    fn asked(&self) -> &[usize];
+    /// How often the stream was asked.
+    fn asked(&self) -> usize;
 }
 
-// Whether this holds of a reader, and nothing where the stream failed.
-fn meets<A: Asks>(reader: &mut A, want: Want<'_>) -> Option<bool> {
-    match want {
-        Want::Rest(bytes) => Some(reader.left() == bytes),
-        Want::Asked(count) => Some(reader.asked().len() == count),
-        Want::Ready(ready) => Some(reader.is_ready() == ready),
-        _ => reader.answers(want),
+/// The bytes of the stream, and call after call: its letter, a blank, what it answers, and a bar.
+pub type Row<'a> = (&'a [u8], &'a [u8]);
+
+// Makes a call, of which `a` is how often the stream was asked.
+fn ask<A: Asks>(asked: &mut A, call: &[u8], log: &mut Log) -> bool {
+    if call == b"a".as_slice() {
+        log.show(&asked.asked());
+        return false;
     }
+    asked.ask(call, log)
 }
 
-// The same, again where the stream failed: how often it did, and nothing where the answer is another.
-fn step<A: Asks>(reader: &mut A, want: Want<'_>) -> Option<usize> {
-    match meets(reader, want) {
-        Some(met) => met.then_some(0),
-        None => meets(reader, want)?.then_some(1),
+// Makes a call, again where the stream failed if that is asked for. How often it failed.
+fn step<A: Asks>(asked: &mut A, call: &[u8], again: bool, log: &mut Log) -> usize {
+    log.note(first(call, 1));
+    log.note(b" ");
+    let failed = ask(asked, call, log);
+    if failed && (!again || ask(asked, call, log)) {
+        log.note(b"failed");
     }
+    log.note(b"|");
+    usize::from(failed)
 }
 
-/// Asks for one after another, again where the stream failed. Nothing where an answer is another.
-pub fn walk<A: Asks + Drop>(mut reader: A, wants: &[Want<'_>]) -> Option<Came> {
+/// Makes the calls of a row, again where the stream failed if that is asked for. Nothing where an answer is another.
+pub fn walk<A: Asks + Drop>(
+    alloc: Global,
+    mut reader: A,
+    wants: &[u8],
+    again: bool,
+) -> Option<Came> {
+    let mut log = Log::new(alloc);
     let mut failed = 0usize;
-    for want in wants {
-        failed = failed.saturating_add(step(&mut reader, *want)?);
+    let mut begins = true;
+    for byte in wants {
+        if begins {
+            failed = failed.saturating_add(step(&mut reader, &[*byte], again, &mut log));
+        }
+        begins = *byte == b'|';
     }
-    Some(Came {
-        failed,
-        calls: reader.asked().len(),
-    })
+    let calls = reader.asked();
+    log.is(wants).then_some(Came { failed, calls })
+}
+
+/// Makes these calls, with what is behind the letter of each.
+pub fn walk_through<A: Asks + Drop>(
+    alloc: Global,
+    mut writer: A,
+    calls: &[&[u8]],
+    wants: &[u8],
+    again: bool,
+) -> Option<Came> {
+    let mut log = Log::new(alloc);
+    let mut failed = 0usize;
+    for call in calls {
+        failed = failed.saturating_add(step(&mut writer, call, again, &mut log));
+    }
+    let calls = writer.asked();
+    log.is(wants).then_some(Came { failed, calls })
+}
+
+/// Whether a stream gives these bytes. Nothing where it failed.
+pub fn gives<R: TellRead>(stream: &mut R, bytes: &[u8]) -> Option<bool> {
+    let mut out = [0; 8];
+    let count = stream.read_told(&mut out[..bytes.len().min(8)]).ok()?;
+    Some(first(&out, count) == bytes)
 }

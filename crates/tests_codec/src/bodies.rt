@@ -1,314 +1,414 @@
-//! The reader of bodies in the chunked coding.
-use End::{Truncated, Whole, Wrong};
+//! Readers of bodies of a length, in chunks, and of parts up to a delimiter.
+use crate::asks::{Log, gives};
+use Kind::{Chunks, Length, OneOf, Part};
+use body_reader::{BodyError, BodyReader, Coding, Either, Side, Sized, Until};
 use buffer_redux::BufReader;
-use buffer_redux::policy::ReaderPolicy;
-use buffer_redux::tell::{Tell, TellRead};
-use chunked::Malformed::{
-    BadField, BadSize, BareFeed, BareReturn, ChunkTooLong, LineTooLong, NoSize, SizeTooLarge,
-    TrailersTooLong,
-};
-use chunked::{Chunked, ChunkedError, ChunkedReader, Limits, Malformed};
+use buffer_redux::policy::{MinBuffered, ReaderPolicy};
+use buffer_redux::tell::TellRead;
+use chunked::{Chunked, Limits, Malformed};
 use redux_script::Answer;
-use std::alloc::{AllocError, Global};
+use std::alloc::Global;
 use std::io;
-use std::io::{ErrorKind, Read};
+use std::io::{BufRead, ErrorKind, Read};
 use std::test::Fail;
 use tests_common::sweep::{Came, FAULT, Run, sweep};
-use tests_common::{Source, asked, first, kind, read, read_to_end, reader, source};
+use tests_common::{
+    Source, asked, consume, fill_buf, first, holding, holding_in, read_to_end, reader_under, source,
+};
 
-// How a body ends.
+// Which coding.
 #[derive(Clone, Copy)]
-enum End<'a> {
-    // Behind it stand these bytes.
-    Whole(&'a [u8]),
-    // The byte behind so many is wrong.
-    Wrong(Malformed, u64),
-    // The body ends behind so many bytes.
-    Truncated(u64),
+enum Kind<'a> {
+    Length(u64),
+    Part(&'a [u8]),
+    // A length, as the one of two.
+    OneOf(u64),
+    // Under these limits of a line and of the trailers.
+    Chunks(usize, usize),
 }
 
-// The most bytes of a line and of the trailers, what is given, the payload, and how that ends.
-struct Row<'a>(usize, usize, &'a [u8], &'a [u8], End<'a>);
+// What is given; the payload, a bar, and how that ends: `whole`, a bar, and what stands behind; `cut`, or what is wrong, and
+// behind how many bytes; or `failed`.
+#[derive(Clone, Copy)]
+struct Row<'a>(Kind<'a>, &'a [u8], &'a [u8]);
 
-const NEXT: &[u8] = b"GET / HTTP/1.1\r\n\r\n";
-
-// Bodies from the documentation of protocols and from the tests of other parsers, each with a request behind it, under the
-// least limits that take it.
-static BODIES: [Row<'static>; 5] = [
+// From the documentation of protocols and from the tests of other parsers, each with a request behind it, under the least limits
+// that take it.
+static OF_OTHERS: [Row<'static>; 5] = [
     Row(
-        1,
-        0,
-        b"4\r\nWiki\r\n5\r\npedia\r\nE\r\n in\r\n\r\nchunks.\r\n0\r\n\r\nGET / HTTP/1.1\r\n\r\n",
-        b"Wikipedia in\r\n\r\nchunks.",
-        Whole(NEXT),
+        Chunks(1, 0),
+        b"4\r\nWiki\r\n5\r\npedia\r\nE\r\n in\r\n\r\nchunks.\r\n0\r\n\r\nGET /",
+        b"Wikipedia in\r\n\r\nchunks.|whole|GET /",
     ),
     Row(
-        2,
-        0,
-        b"7\r\nMozilla\r\n11\r\nDeveloper Network\r\n0\r\n\r\nGET / HTTP/1.1\r\n\r\n",
-        b"MozillaDeveloper Network",
-        Whole(NEXT),
+        Chunks(2, 0),
+        b"7\r\nMozilla\r\n11\r\nDeveloper Network\r\n0\r\n\r\nGET /",
+        b"MozillaDeveloper Network|whole|GET /",
     ),
     Row(
-        2,
-        0,
+        Chunks(2, 0),
         b"25\r\nThis is the data in the first chunk\r\n\r\n1C\r\nand this is the second one\r\n\r\n0\r\n\r\n\
-GET / HTTP/1.1\r\n\r\n",
-        b"This is the data in the first chunk\r\nand this is the second one\r\n",
-        Whole(NEXT),
+GET /",
+        b"This is the data in the first chunk\r\nand this is the second one\r\n|whole|GET /",
     ),
     Row(
-        3,
-        31,
-        b"5\r\nhello\r\n6\r\n world\r\n000\r\nVary: *\r\nContent-Type: text/plain\r\n\r\nGET / HTTP/1.1\r\n\r\n",
-        b"hello world",
-        Whole(NEXT),
+        Chunks(3, 31),
+        b"5\r\nhello\r\n6\r\n world\r\n000\r\nVary: *\r\nContent-Type: text/plain\r\n\r\nGET /",
+        b"hello world|whole|GET /",
     ),
     Row(
-        44,
-        0,
-        b"5; ilovew3;whattheluck=aretheseparametersfor\r\nhello\r\n6; blahblah; blah\r\n world\r\n0\r\n\r\n\
-GET / HTTP/1.1\r\n\r\n",
-        b"hello world",
-        Whole(NEXT),
+        Chunks(44, 0),
+        b"5; ilovew3;whattheluck=aretheseparametersfor\r\nhello\r\n6; blahblah; blah\r\n world\r\n0\r\n\r\nGET /",
+        b"hello world|whole|GET /",
     ),
 ];
 
-// What isn't a body: the name of what is wrong, behind how many bytes that are right.
-static WRONG: [Row<'static>; 10] = [
-    Row(9, 9, b"\r\n", b"", Wrong(NoSize, 0)),
-    Row(9, 9, b"1\r\na\r\n;x\r\n", b"a", Wrong(NoSize, 6)),
-    Row(9, 9, b"4x\r\nWiki", b"", Wrong(BadSize, 1)),
-    Row(9, 9, b"4 x\r\nWiki", b"", Wrong(BadSize, 2)),
-    Row(9, 9, b"4\nWiki", b"", Wrong(BareFeed, 1)),
-    Row(9, 9, b"4 \nWiki", b"", Wrong(BareFeed, 2)),
-    Row(9, 9, b"4;a\nWiki", b"", Wrong(BareFeed, 3)),
-    Row(9, 9, b"0\r\n\n", b"", Wrong(BareFeed, 3)),
-    Row(9, 9, b"0\r\nX\n", b"", Wrong(BareFeed, 4)),
-    Row(9, 9, b"0\r\nX\r\n", b"", Wrong(BadField, 4)),
-];
-
-// The same of carriage returns.
-static WRONG_RETURNS: [Row<'static>; 7] = [
-    Row(9, 9, b"4\rWiki", b"", Wrong(BareReturn, 2)),
-    Row(9, 9, b"4;a\r\r\n", b"", Wrong(BareReturn, 4)),
-    Row(9, 9, b"1\r\na\rb", b"a", Wrong(BareReturn, 5)),
-    Row(9, 9, b"0\r\nX:\rY", b"", Wrong(BareReturn, 6)),
-    Row(9, 9, b"0\r\n\rX", b"", Wrong(BareReturn, 4)),
-    Row(9, 9, b"3\r\nWiki\r\n", b"Wik", Wrong(ChunkTooLong, 6)),
-    Row(9, 9, b"3\r\nWik\n", b"Wik", Wrong(ChunkTooLong, 6)),
-];
-
-// At each limit and one past it.
-static LIMITS: [Row<'static>; 9] = [
-    Row(20, 0, b"3fffffffffffffff\r\n", b"", Truncated(18)),
-    Row(20, 0, b"4000000000000000\r\n", b"", Wrong(SizeTooLarge, 15)),
-    Row(20, 0, b"03FFFFFFFFFFFFFFF\r\n", b"", Truncated(19)),
-    Row(4, 0, b"0004\r\n", b"", Truncated(6)),
-    Row(4, 0, b"00004\r\n", b"", Wrong(LineTooLong, 4)),
-    Row(4, 0, b"4  ;a\r\n", b"", Wrong(LineTooLong, 2)),
-    Row(4, 0, b"4;abc\r\n", b"", Wrong(LineTooLong, 4)),
-    Row(1, 4, b"0\r\na:\r\nb:\r\n\r\n", b"", Whole(b"")),
+// Bodies, and parts with beginnings of the delimiter in them.
+static BODIES: [Row<'static>; 8] = [
+    Row(Chunks(9, 9), b"3\r\nabc\r\n0\r", b"abc|cut 10"),
+    Row(Length(5), b"helloGET", b"hello|whole|GET"),
+    Row(Length(5), b"hell", b"hell|cut 4"),
+    Row(OneOf(5), b"helloGET", b"hello|whole|GET"),
     Row(
-        1,
-        5,
-        b"0\r\na:\r\nb:\r\nc:\r\n\r\n",
-        b"",
-        Wrong(TrailersTooLong, 11),
+        Part(b"\r\n--b"),
+        b"ab\r\n-\r\n\r\n--bGET",
+        b"ab\r\n-\r\n|whole|GET",
+    ),
+    Row(Part(b"\r\n--b"), b"\r\n--bGET", b"|whole|GET"),
+    Row(Part(b"aab"), b"aaaaabab", b"aaa|whole|ab"),
+    Row(Part(b"\r\n--b"), b"abcdefg\r\n--", b"abcdefg|cut 7"),
+];
+
+// What isn't a body: the name of what is wrong, behind how many bytes that are right. At each limit and one past it.
+static WRONG: [Row<'static>; 14] = [
+    Row(Chunks(9, 9), b"1\r\na\r\n;x\r\n", b"a|NoSize 6"),
+    Row(Chunks(9, 9), b"4 x\r\nWiki", b"|BadSize 2"),
+    Row(Chunks(9, 9), b"4;a\nWiki", b"|BareFeed 3"),
+    Row(Chunks(9, 9), b"0\r\nX\r\n", b"|BadField 4"),
+    Row(Chunks(9, 9), b"0\r\nX:\rY", b"|BareReturn 6"),
+    Row(Chunks(9, 9), b"3\r\nWiki\r\n", b"Wik|ChunkTooLong 6"),
+    Row(Chunks(9, 9), b"4\r\nWik", b"Wik|cut 6"),
+    Row(Chunks(20, 0), b"3fffffffffffffff\r\n", b"|cut 18"),
+    Row(Chunks(20, 0), b"4000000000000000\r\n", b"|SizeTooLarge 15"),
+    Row(Chunks(4, 0), b"0004\r\n", b"|cut 6"),
+    Row(Chunks(4, 0), b"00004\r\n", b"|LineTooLong 4"),
+    Row(Chunks(4, 0), b"4;abc\r\n", b"|LineTooLong 4"),
+    Row(Chunks(1, 4), b"0\r\na:\r\nb:\r\n\r\n", b"|whole|"),
+    Row(
+        Chunks(1, 3),
+        b"0\r\na:\r\nb:\r\n\r\n",
+        b"|TrailersTooLong 7",
     ),
 ];
 
-// Cut off in each part.
-static CUT: [Row<'static>; 8] = [
-    Row(9, 9, b"", b"", Truncated(0)),
-    Row(9, 9, b"4", b"", Truncated(1)),
-    Row(9, 9, b"4;a\r", b"", Truncated(4)),
-    Row(9, 9, b"4\r\nWik", b"Wik", Truncated(6)),
-    Row(9, 9, b"4\r\nWiki", b"Wiki", Truncated(7)),
-    Row(9, 9, b"4\r\nWiki\r\n", b"Wiki", Truncated(9)),
-    Row(9, 9, b"0\r\nX", b"", Truncated(4)),
-    Row(9, 9, b"0\r\nX:\r\n\r", b"", Truncated(8)),
+// What the bytes that are shown settle, over a stream that fails where it is asked again.
+static SHOWN: [Row<'static>; 10] = [
+    Row(Chunks(9, 9), b"5\r\nhel", b"hel|failed"),
+    Row(Chunks(9, 9), b"5\r\nhello\r\n", b"hello|failed"),
+    Row(
+        Chunks(9, 9),
+        b"5\r\nhello\r\n0\r\n\r\nGET",
+        b"hello|whole|GET",
+    ),
+    Row(Length(5), b"hel", b"hel|failed"),
+    Row(Length(5), b"hello", b"hello|whole|"),
+    Row(Part(b"\r\n--b"), b"ab", b"ab|failed"),
+    Row(Part(b"\r\n--b"), b"ab\r\n-x\r", b"ab\r\n-x|failed"),
+    Row(Part(b"\r\n--b"), b"ab\r\n--b", b"ab|whole|"),
+    Row(Part(b"\r\n--b"), b"\r\n--bGET", b"|whole|GET"),
+    Row(Part(b"aab"), b"aaa", b"a|failed"),
 ];
 
-// A reader of a body over a script.
-type Body = ChunkedReader<Source>;
-
-/// A reader of a body under these limits, whose buffer has some byte. Neither it nor any call below promises anything.
-pub fn over<R: Tell + Drop, P: Drop>(
-    reader: BufReader<R, P>,
-    line: usize,
-    trailers: usize,
-) -> io::Result<ChunkedReader<R, P>> {
-    if reader.capacity() == 0 {
-        return Err(io::Error::from(ErrorKind::Other));
-    }
-    Ok(ChunkedReader::new(reader, Chunked(Limits { line, trailers })))
+// What is wrong with a body, of which one of a length has none.
+trait Named {
+    fn name(&self, log: &mut Log);
 }
 
-fn body(alloc: Global, row: &Row<'_>, script: &[Answer]) -> io::Result<Body> {
-    let reader = reader(alloc, 8, b"", source(alloc, row.2, script)?)?;
-    over(reader, row.0, row.1)
+impl Named for () {
+    fn name(&self, _log: &mut Log) {}
+}
+
+impl Named for Malformed {
+    fn name(&self, log: &mut Log) {
+        log.show_debug(self);
+    }
+}
+
+impl Named for Side<(), ()> {
+    fn name(&self, _log: &mut Log) {}
+}
+
+// How a row is played: through a ring or a plain buffer of this capacity, under such a minimum or none, by slices or lent, and
+// again where the stream failed.
+#[derive(Clone, Copy)]
+struct Play {
+    ring: bool,
+    capacity: usize,
+    minimum: Option<usize>,
+    lent: bool,
+    again: bool,
 }
 
 // One read of payload.
-fn read_payload<R: TellRead, P: ReaderPolicy>(
-    body: &mut ChunkedReader<R, P>,
+fn next<C: Coding, P: ReaderPolicy + Drop>(
+    body: &mut BodyReader<Source, C, P>,
+    lent: bool,
     out: &mut [u8],
-) -> Result<usize, ChunkedError> {
-    body.read_payload(out)
+) -> Result<usize, BodyError<C::Wrong>> {
+    if !lent {
+        return body.read_payload(out);
+    }
+    let _ = body.fill_payload()?;
+    let piece = body.piece();
+    let count = piece.len().min(out.len());
+    out[..count].copy_from_slice(&piece[..count]);
+    body.consume_payload(count);
+    Ok(count)
 }
 
-fn is_done<R: Tell, P>(body: &ChunkedReader<R, P>) -> bool {
-    body.is_done()
+// Notes a read of payload, and how the body ended if it did. Nothing where the stream failed, or else whether it goes on.
+fn notes<C: Coding, P: ReaderPolicy + Drop>(
+    body: &mut BodyReader<Source, C, P>,
+    lent: bool,
+    log: &mut Log,
+) -> Option<bool>
+where
+    C::Wrong: Named,
+{
+    let mut out = [0; 16];
+    match next(body, lent, &mut out) {
+        Ok(0) => log.note(b"|whole"),
+        Ok(n) => {
+            log.note(first(&out, n));
+            return Some(true);
+        }
+        Err(BodyError::Io(_)) => return None,
+        Err(BodyError::Truncated(right)) => {
+            log.note(b"|cut ");
+            log.show(&right);
+        }
+        Err(BodyError::Wrong(why, right)) => {
+            log.note(b"|");
+            why.name(log);
+            log.note(b" ");
+            log.show(&right);
+        }
+    }
+    Some(false)
 }
 
-fn took<R: Tell, P>(body: &ChunkedReader<R, P>) -> u64 {
-    body.taken()
-}
-
-fn into_inner<R: Tell, P>(body: ChunkedReader<R, P>) -> BufReader<R, P> {
-    body.into_inner_torn()
-}
-
-// Hands payload out until it ends, again where the stream failed. How it ends, and how often it failed.
-fn payload_of<R: TellRead, P: ReaderPolicy>(
-    body: &mut ChunkedReader<R, P>,
-    payload: &mut Vec<u8>,
-) -> Result<(Option<ChunkedError>, usize), AllocError> {
-    let mut out = [0; 64];
+// Notes the payload, and how it ends. How often the stream failed.
+fn payload_of<C: Coding, P: ReaderPolicy + Drop>(
+    body: &mut BodyReader<Source, C, P>,
+    play: Play,
+    log: &mut Log,
+) -> usize
+where
+    C::Wrong: Named,
+{
     let mut failed = 0usize;
     for _ in 0..1000 {
-        match read_payload(body, &mut out) {
-            Ok(0) => return Ok((None, failed)),
-            Ok(n) => payload.extend_from_slice(first(&out, n))?,
-            Err(ChunkedError::Io(_)) => failed = failed.saturating_add(1),
-            Err(e) => return Ok((Some(e), failed)),
+        match notes(body, play.lent, log) {
+            Some(true) => {}
+            Some(false) => return failed,
+            None if play.again => failed = failed.saturating_add(1),
+            None => {
+                log.note(b"|failed");
+                return failed;
+            }
         }
     }
-    Ok((None, failed))
+    failed
 }
 
-// Whether a body ended so.
-fn ends<R: Tell, P>(body: &ChunkedReader<R, P>, why: &Option<ChunkedError>, end: End<'_>) -> bool {
-    match (why, end) {
-        (None, Whole(_)) => is_done(body),
-        (Some(ChunkedError::Wrong(why, right)), Wrong(name, count)) => {
-            *why == name && *right == count && took(body) == count && !is_done(body)
-        }
-        (Some(ChunkedError::Truncated(right)), Truncated(count)) => {
-            *right == count && took(body) == count && !is_done(body)
-        }
-        _ => false,
-    }
-}
-
-// Whether this payload comes, and then such an end; how often the stream failed.
-fn comes<R: TellRead, P: ReaderPolicy>(
+// Notes what is behind a body that is whole: all that the stream has, or what is buffered. How often the stream failed.
+fn rest_of<P: ReaderPolicy>(
     alloc: Global,
-    body: &mut ChunkedReader<R, P>,
-    want: &[u8],
-    end: End<'_>,
-) -> Result<Option<usize>, AllocError> {
-    let mut payload = Vec::new(alloc);
-    let (why, failed) = payload_of(body, &mut payload)?;
-    let right = payload.as_slice() == want && ends(body, &why, end);
-    Ok(right.then_some(failed))
-}
-
-// Whether these bytes are left in a reader, which is read again where the stream failed, and how often it was.
-fn leaves<R: Read>(alloc: Global, reader: &mut R, behind: &[u8]) -> io::Result<Option<usize>> {
+    reader: &mut BufReader<Source, P>,
+    again: bool,
+    log: &mut Log,
+) -> usize {
+    log.note(b"|");
+    if !again {
+        log.note(reader.buffer());
+        return 0;
+    }
     let mut rest = Vec::new(alloc);
     let mut failed = 0;
     if read_to_end(reader, &mut rest).is_err() {
-        read_to_end(reader, &mut rest)?;
         failed = 1;
+        let _ = read_to_end(reader, &mut rest);
     }
-    Ok((rest.as_slice() == behind).then_some(failed))
+    log.note(rest.as_slice());
+    failed
 }
 
-// Whether they are left behind a body that is whole. How often that failed, and how often the stream was asked in all.
-fn goes_before(alloc: Global, body: Body, end: End<'_>) -> io::Result<Option<Came>> {
-    let mut reader = into_inner(body);
-    let failed = match end {
-        Whole(behind) => leaves(alloc, &mut reader, behind)?,
-        _ => Some(0),
-    };
-    let calls = asked(&reader).len();
-    Ok(failed.map(|failed| Came { failed, calls }))
+// Whether a body comes so.
+fn comes<C: Coding, P: ReaderPolicy + Drop>(
+    alloc: Global,
+    reader: BufReader<Source, P>,
+    coding: C,
+    play: Play,
+    wants: &[u8],
+) -> Option<Came>
+where
+    C::Wrong: Named,
+{
+    if reader.capacity() < coding.ahead() {
+        return None;
+    }
+    let mut body = BodyReader::new(reader, coding);
+    let mut log = Log::new(alloc);
+    let mut failed = payload_of(&mut body, play, &mut log);
+    let is_done = body.is_done();
+    let mut inner = body.into_inner_torn();
+    if is_done {
+        failed = failed.saturating_add(rest_of(alloc, &mut inner, play.again, &mut log));
+    }
+    let calls = asked(&inner).len();
+    log.is(wants).then_some(Came { failed, calls })
 }
 
-// Whatever ends a body stays so: how often the stream failed.
-fn stays(alloc: Global, body: &mut Body, row: &Row<'_>) -> Result<Option<usize>, AllocError> {
-    let once = comes(alloc, body, row.3, row.4)?;
-    let again = comes(alloc, body, b"", row.4)?;
-    Ok(match (once, again) {
-        (Some(one), Some(other)) => Some(one.saturating_add(other)),
-        _ => None,
+// The same of the coding that a row names.
+fn plays<P: ReaderPolicy + Drop>(
+    alloc: Global,
+    reader: BufReader<Source, P>,
+    play: Play,
+    row: Row<'_>,
+) -> io::Result<Option<Came>> {
+    let Row(kind, _, wants) = row;
+    Ok(match kind {
+        Length(n) => comes(alloc, reader, Sized(n), play, wants),
+        Chunks(line, trailers) => {
+            let coding = Chunked(Limits { line, trailers });
+            comes(alloc, reader, coding, play, wants)
+        }
+        OneOf(n) => {
+            let coding = Either::<Sized, Sized>::First(Sized(n));
+            comes(alloc, reader, coding, play, wants)
+        }
+        Part(bytes) if bytes.is_empty() => None,
+        Part(bytes) => {
+            let delimiter = Vec::from_slice(alloc, bytes)?;
+            comes(alloc, reader, Until::new(delimiter), play, wants)
+        }
     })
 }
 
-impl Run for Row<'_> {
+// A row, and how it is played.
+#[derive(Drop)]
+struct Played<'a>(Row<'a>, Play);
+
+impl Run for Played<'_> {
     fn run(&self, alloc: Global, script: &[Answer]) -> io::Result<Option<Came>> {
-        let mut body = body(alloc, self, script)?;
-        let failed = stays(alloc, &mut body, self)?;
-        let came = goes_before(alloc, body, self.4)?;
-        Ok(match (failed, came) {
-            (Some(more), Some(Came { failed, calls })) => Some(Came {
-                failed: failed.saturating_add(more),
-                calls,
-            }),
-            _ => None,
-        })
+        let &Played(row, play) = self;
+        let buffer = holding_in(alloc, play.ring, play.capacity, b"")?;
+        let reader = BufReader::with_buffer(buffer, source(alloc, row.1, script)?);
+        match play.minimum {
+            Some(n) => plays(alloc, reader_under(reader, MinBuffered(n)), play, row),
+            None => plays(alloc, reader, play, row),
+        }
     }
+}
+
+// By slices and lent, over buffers of each kind.
+const KINDS: &[(bool, bool)] = &[(false, false), (false, true), (true, false), (true, true)];
+
+// Whether rows are so in pieces and byte by byte, with a fault at each read, over buffers of such a capacity.
+fn are_so(alloc: Global, rows: &[Row<'_>], capacity: usize) -> io::Result<bool> {
+    for row in rows {
+        for &(ring, lent) in KINDS {
+            let play = Play {
+                ring,
+                capacity,
+                minimum: None,
+                lent,
+                again: true,
+            };
+            if sweep(alloc, &[Played(*row, play)], &[100, 3, 1], FAULT)?.is_err() {
+                return Ok(false);
+            }
+        }
+    }
+    Ok(true)
 }
 
 #[test]
 fn reads_bodies(rt: HostRuntime) -> Result<(), Fail> {
-    let met = sweep(rt.alloc(), &BODIES, &[usize::MAX, 3, 1], FAULT)?;
-    assert!(rt; met == Ok(593), "{met:?}");
+    for capacity in [5, 8, 64] {
+        assert!(rt; are_so(rt.alloc(), &BODIES, capacity)?);
+    }
+    for rows in [OF_OTHERS.as_slice(), &WRONG] {
+        assert!(rt; are_so(rt.alloc(), rows, 8)?);
+    }
     Ok(())
+}
+
+// Whether what is shown is handed out, and an end that is shown is told, under such a minimum.
+fn settles(alloc: Global, row: Row<'_>, minimum: Option<usize>) -> io::Result<bool> {
+    let script = [Answer::Serve(100), Answer::Fail(ErrorKind::TimedOut)];
+    for &(ring, lent) in KINDS {
+        let play = Play {
+            ring,
+            capacity: 64,
+            minimum,
+            lent,
+            again: false,
+        };
+        if Played(row, play).run(alloc, &script)?.is_none() {
+            return Ok(false);
+        }
+    }
+    Ok(true)
 }
 
 #[test]
-fn tells_how_bodies_end(rt: HostRuntime) -> Result<(), Fail> {
-    let mut met = [Ok(0); 4];
-    for (met, rows) in met
-        .iter_mut()
-        .zip([WRONG.as_slice(), &WRONG_RETURNS, &LIMITS, &CUT])
-    {
-        *met = sweep(rt.alloc(), rows, &[1], FAULT)?;
+fn asks_for_nothing_that_is_settled(rt: HostRuntime) -> Result<(), Fail> {
+    for row in &SHOWN {
+        for minimum in [None, Some(0), Some(1), Some(64)] {
+            assert!(rt; settles(rt.alloc(), *row, minimum)?);
+        }
     }
-    assert!(rt; met == [Ok(36), Ok(40), Ok(104), Ok(55)], "{met:?}");
     Ok(())
 }
 
-// The rows, and what one read answers, as std's do.
-static READ: [(Row<'static>, Result<usize, ErrorKind>); 4] = [
-    (Row(9, 9, b"3\r\nabc\r\n", b"abc", Whole(b"")), Ok(3)),
-    (Row(9, 9, b"0\r\n\r\n", b"", Whole(b"")), Ok(0)),
-    (
-        Row(9, 9, b"x", b"", Wrong(NoSize, 0)),
-        Err(ErrorKind::InvalidData),
-    ),
-    (
-        Row(9, 9, b"", b"", Truncated(0)),
-        Err(ErrorKind::UnexpectedEof),
-    ),
-];
-
-// Whether one read answers so, over a buffer of eight bytes that the stream was offered whole.
-fn is_read(alloc: Global, row: &Row<'_>, want: Result<usize, ErrorKind>) -> io::Result<bool> {
-    let mut body = body(alloc, row, &[])?;
+// Whether the other calls do what they say, over a buffer that holds `ab`, and a stream that fails, and then has `xc`, a line
+// feed and `deGET`.
+fn answers(alloc: Global, mut body: BodyReader<Source, Sized>) -> io::Result<bool> {
     let mut out = [0; 8];
-    let answer = kind(read(&mut body, &mut out));
-    let payload = first(&out, row.3.len()) == row.3;
-    Ok(payload && answer == want && asked(body.get_ref()).first() == Some(&8))
+    let held = body.read_buffered(&mut out) == 2 && body.place() == 5 && body.taken() == 2;
+    let none = body.get_ref().buffer().is_empty() && fill_buf(&mut body).is_err();
+    let shown = fill_buf(&mut body)? == b"xc\nde".as_slice();
+    consume(&mut body, 1);
+    let mut line = Vec::new(alloc);
+    let count = body.read_until(b'\n', &mut line)?;
+    let rest = body.read(&mut out)?;
+    let ended = body.is_done() && !body.is_at_end()?;
+    let past = gives(body.get_mut(), b"?");
+    let Ok(inner) = body.finish() else {
+        return Ok(false);
+    };
+    Ok(
+        held && none
+            && shown
+            && count == 2
+            && line.as_slice() == b"c\n".as_slice()
+            && rest == 2
+            && ended
+            && past == Some(false)
+            && inner.buffer() == b"GET".as_slice(),
+    )
 }
 
 #[test]
-fn reads_as_std_does(rt: HostRuntime) -> Result<(), Fail> {
-    for (at, (row, want)) in READ.iter().enumerate() {
-        assert!(rt; is_read(rt.alloc(), row, *want)?, "row {at}");
-    }
+fn other_calls(rt: HostRuntime) -> Result<(), Fail> {
+    let alloc = rt.alloc();
+    let script = [Answer::Fail(ErrorKind::TimedOut)];
+    let stream = source(alloc, b"xc\ndeGET", &script)?;
+    let seen = match BodyReader::with_buffer(holding(alloc, 8, b"ab")?, stream, Sized(7)) {
+        Ok(body) => answers(alloc, body)?,
+        Err(_) => false,
+    };
+    assert!(rt; seen);
     Ok(())
 }

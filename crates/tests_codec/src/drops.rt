@@ -1,5 +1,6 @@
 //! What a writer that is dropped does to the stream inside, which is lent to it. A reader's drop is derived, and makes no call.
-use crate::{chunks, frames};
+use crate::chunks;
+use crate::written::frame_writer;
 use Way::{Body, Ended, Frames, Lines, Refused};
 use buffer_redux::tell::{TellWrite, Told};
 use chunked::ChunkedWriter;
@@ -31,8 +32,8 @@ fn drops_lines<W: TellWrite + Drop>(alloc: Global, inner: W) -> io::Result<()> {
 }
 
 fn drops_frames<W: TellWrite + Drop>(alloc: Global, inner: W) -> io::Result<()> {
-    let mut sends = frames::writer(alloc, 9, inner)?;
-    let _ = frames::puts(&mut sends, b"hello", 9);
+    let mut sends = frame_writer(alloc, inner, 9)?;
+    let _ = sends.write_frame(b"hello");
     Ok(())
 }
 
@@ -45,7 +46,7 @@ fn hello_in<W: TellWrite + Drop>(alloc: Global, inner: W) -> io::Result<ChunkedW
 // Its end has five bytes, and there is room for four.
 fn drops_ended<W: TellWrite + Drop>(alloc: Global, inner: W) -> io::Result<()> {
     let body = chunks::over(writer(alloc, 23, HEAD, inner)?)?;
-    Ok(drop(chunks::ends(body, &[])))
+    Ok(drop(chunks::finish(body)))
 }
 
 fn drops<W: TellWrite + Drop>(alloc: Global, way: Way, inner: W) -> io::Result<()> {

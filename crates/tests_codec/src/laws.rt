@@ -1,5 +1,6 @@
 //! The laws that make calls: any number of them with their answers, and lists of payloads that are written and read again.
-use Said::{Failed, Line, Nothing, Skipped, Wrong};
+use crate::asks::Log;
+use crate::readers::line_reader;
 use codec::laws::{play_next, play_write, write_each};
 use codec::{Delimited, PieceWriter, WritePieceError};
 use frame_reader::WriteFrameError;
@@ -12,41 +13,23 @@ use std::io::ErrorKind;
 use std::test::Fail;
 use tests_common::{Source, Target, line_writer, source, taken_lines, target};
 
-// What a call answered.
-#[derive(Clone, Copy)]
-enum Said<'a> {
-    // This line.
-    Line(&'a [u8]),
-    // No line is there, or buffered.
-    Nothing,
-    // The line is too long.
-    Wrong,
-    // The stream failed.
-    Failed,
-    // So many bytes were skipped.
-    Skipped(u64),
-}
-
-fn is_said(answer: &Result<Option<Vec<u8>>, LineError>, said: Said<'_>) -> bool {
-    match (answer, said) {
-        (Ok(Some(line)), Line(bytes)) => line.as_slice() == bytes,
-        (Ok(None), Nothing) => true,
-        (Err(LineError::TooLong(3)), Wrong) => true,
-        (Err(LineError::Io(_)), Failed) => true,
-        _ => false,
+// Notes a line or what came in its place, and a bar.
+fn note_line(answer: &Result<Option<Vec<u8>>, LineError>, log: &mut Log) {
+    match answer {
+        Ok(Some(line)) => log.note(line.as_slice()),
+        Ok(None) => log.note(b"end"),
+        Err(why) => log.show(why),
     }
+    log.note(b"|");
 }
 
-fn is_played(call: &Played, ask: Ask, said: Said<'_>) -> bool {
-    match (call, ask) {
-        (Played::Next(answer), Ask::Next) => is_said(answer, said),
-        (Played::NextTrimmed(answer), Ask::NextTrimmed) => is_said(answer, said),
-        (Played::NextBuffered(Some(line)), Ask::NextBuffered) => {
-            matches!(said, Line(bytes) if line.as_slice() == bytes)
-        }
-        (Played::NextBuffered(None), Ask::NextBuffered) => matches!(said, Nothing),
-        (Played::SkipLine(Ok(count)), Ask::SkipLine) => matches!(said, Skipped(n) if n == *count),
-        _ => false,
+// The same of any call.
+fn note_call(call: &Played, log: &mut Log) {
+    match call {
+        Played::Next(answer) | Played::NextTrimmed(answer) => note_line(answer, log),
+        Played::NextBuffered(Some(line)) => log.note(line.as_slice()),
+        Played::SkipLine(Ok(count)) => log.show(count),
+        _ => log.note(b"none|"),
     }
 }
 
@@ -56,50 +39,52 @@ fn fails_at_five(alloc: Global) -> Result<Source, AllocError> {
     source(alloc, b"ab\nc\r\nabcdef\nx", &script)
 }
 
-static ASKED: [Said<'static>; 6] = [Line(b"ab"), Failed, Line(b"c\r"), Wrong, Wrong, Wrong];
-
-static PLAYED: [(Ask, Said<'static>); 8] = [
-    (Ask::NextBuffered, Nothing),
-    (Ask::Next, Line(b"ab")),
-    (Ask::NextTrimmed, Failed),
-    (Ask::NextTrimmed, Line(b"c")),
-    (Ask::Next, Wrong),
-    (Ask::SkipLine, Skipped(7)),
-    (Ask::Next, Line(b"x")),
-    (Ask::Next, Nothing),
-];
-
-fn answers(alloc: Global) -> io::Result<Vec<Result<Option<Vec<u8>>, LineError>>> {
+fn note_answers(alloc: Global, log: &mut Log) -> io::Result<()> {
     let mut answers = Vec::new(alloc);
-    let mut lines = crate::lines::reader(alloc, 3, fails_at_five(alloc)?)?;
-    play_next(alloc, &mut lines, ASKED.len(), &mut answers)?;
-    Ok(answers)
+    let mut lines = line_reader(alloc, 3, fails_at_five(alloc)?)?;
+    let played = play_next(alloc, &mut lines, 4, &mut answers);
+    drop(lines);
+    played?;
+    for answer in &answers {
+        note_line(answer, log);
+    }
+    Ok(())
 }
 
-fn played(alloc: Global) -> io::Result<Vec<Played>> {
-    let mut played = Vec::new(alloc);
-    let mut lines = crate::lines::reader(alloc, 3, fails_at_five(alloc)?)?;
-    play_calls(alloc, &mut lines, &PLAYED.map(|(ask, _)| ask), &mut played)?;
-    Ok(played)
+const ASKED: [Ask; 8] = [
+    Ask::NextBuffered,
+    Ask::Next,
+    Ask::NextTrimmed,
+    Ask::NextTrimmed,
+    Ask::Next,
+    Ask::SkipLine,
+    Ask::Next,
+    Ask::Next,
+];
+
+fn note_calls(alloc: Global, log: &mut Log) -> io::Result<()> {
+    let mut calls = Vec::new(alloc);
+    let mut lines = line_reader(alloc, 3, fails_at_five(alloc)?)?;
+    let played = play_calls(alloc, &mut lines, &ASKED, &mut calls);
+    drop(lines);
+    played?;
+    for call in &calls {
+        note_call(call, log);
+    }
+    Ok(())
 }
 
 #[test]
 fn plays_calls(rt: HostRuntime) -> Result<(), Fail> {
-    let answers = answers(rt.alloc())?;
-    assert!(rt; answers.len() == ASKED.len());
+    let mut log = Log::new(rt.alloc());
+    note_answers(rt.alloc(), &mut log)?;
+    log.note(b"\n");
+    note_calls(rt.alloc(), &mut log)?;
     assert!(rt;
-        answers
-            .iter()
-            .zip(&ASKED)
-            .all(|(answer, said)| is_said(answer, *said))
-    );
-    let played = played(rt.alloc())?;
-    assert!(rt; played.len() == PLAYED.len());
-    assert!(rt;
-        played
-            .iter()
-            .zip(&PLAYED)
-            .all(|(call, (ask, said))| is_played(call, *ask, *said))
+        log.is(
+            b"ab|timed out|c\r|a line of more than 3 bytes is too long|\n\
+none|ab|timed out|c|a line of more than 3 bytes is too long|7x|end|"
+        )
     );
     Ok(())
 }
@@ -112,22 +97,17 @@ fn owned(alloc: Global, payloads: &[&[u8]]) -> Result<Vec<Vec<u8>>, AllocError> 
     Ok(all)
 }
 
-fn are(found: &[Vec<u8>], payloads: &[&[u8]]) -> bool {
-    found.len() == payloads.len()
-        && found
-            .iter()
-            .zip(payloads)
-            .all(|(one, other)| one.as_slice() == *other)
+fn are(found: &[Vec<u8>], payloads: &[Vec<u8>]) -> bool {
+    found.len() == payloads.len() && found.iter().zip(payloads).all(|(one, other)| one == other)
 }
 
 const LINES: Delimited = Delimited { end: b'\n', max: 3 };
 
-// Payloads, and behind how many comes the first that is refused, of lines of at most three bytes, and of such frames.
-static LISTS: [(&[&[u8]], Option<usize>, Option<usize>); 4] = [
-    (&[b"ab", b"", b"abc"], None, None),
-    (&[], None, None),
-    (&[b"a", b"", b"b\nc", b"d"], Some(2), None),
-    (&[b"abc", b"abcd"], Some(1), Some(1)),
+// Payloads, and behind how many comes the first that is refused, of lines of at most three bytes and of such frames.
+static LISTS: [(&[&[u8]], Option<usize>); 3] = [
+    (&[b"ab", b"", b"abc"], None),
+    (&[], None),
+    (&[b"abc", b"abcd"], Some(1)),
 ];
 
 fn writer(alloc: Global) -> io::Result<PieceWriter<Target, Delimited>> {
@@ -149,21 +129,15 @@ fn plays_each(alloc: Global, payloads: &[Vec<u8>]) -> io::Result<Option<usize>> 
     Ok(answers.iter().position(|answer| answer.is_err()))
 }
 
-// Whether lists come back whole, or are refused so.
-fn come_back(
-    alloc: Global,
-    payloads: &[Vec<u8>],
-    row: &(&[&[u8]], Option<usize>, Option<usize>),
-) -> bool {
+// Whether lists come back whole, as lines and as frames, or are refused.
+fn come_back(alloc: Global, payloads: &[Vec<u8>], refused: bool) -> bool {
     let lines = match codec::laws::round_trip(alloc, LINES, payloads) {
-        Ok(both) => row.1.is_none() && are(both.1.as_slice(), row.0),
-        Err(WritePieceError::Refused(_)) => row.1.is_some(),
-        Err(_) => false,
+        Ok(both) => !refused && are(both.1.as_slice(), payloads),
+        Err(why) => refused && matches!(why, WritePieceError::Refused(_)),
     };
     let frames = match frame_reader::laws::round_trip(alloc, payloads, 3) {
-        Ok(both) => row.2.is_none() && are(both.1.as_slice(), row.0),
-        Err(WriteFrameError::TooLong(4)) => row.2.is_some(),
-        Err(_) => false,
+        Ok(both) => !refused && are(both.1.as_slice(), payloads),
+        Err(why) => refused && matches!(why, WriteFrameError::TooLong(4)),
     };
     lines && frames
 }
@@ -171,17 +145,11 @@ fn come_back(
 #[test]
 fn writes_and_reads_lists(rt: HostRuntime) -> Result<(), Fail> {
     let alloc = rt.alloc();
-    for (at, row) in LISTS.iter().enumerate() {
-        let payloads = owned(alloc, row.0)?;
-        assert!(rt;
-            writes_each(alloc, payloads.as_slice())? == row.1,
-            "row {at}"
-        );
-        assert!(rt;
-            plays_each(alloc, payloads.as_slice())? == row.1,
-            "row {at}"
-        );
-        assert!(rt; come_back(alloc, payloads.as_slice(), row), "row {at}");
+    for &(list, taken) in &LISTS {
+        let payloads = owned(alloc, list)?;
+        assert!(rt; writes_each(alloc, payloads.as_slice())? == taken);
+        assert!(rt; plays_each(alloc, payloads.as_slice())? == taken);
+        assert!(rt; come_back(alloc, payloads.as_slice(), taken.is_some()));
     }
     Ok(())
 }

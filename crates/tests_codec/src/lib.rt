@@ -9,30 +9,22 @@ mod bodies;
 #[cfg(test)]
 mod by_hand;
 #[cfg(test)]
-mod by_hand_out;
-#[cfg(test)]
 mod chunks;
-#[cfg(test)]
-mod codings;
 #[cfg(test)]
 mod drops;
 #[cfg(test)]
 mod examples;
 #[cfg(test)]
-mod frames;
-#[cfg(test)]
 mod laws;
 #[cfg(test)]
 mod lent;
-#[cfg(test)]
-mod lines;
 pub mod packets;
 #[cfg(test)]
 mod parts;
 #[cfg(test)]
 mod pieces;
 #[cfg(test)]
-mod ready;
+mod readers;
 #[cfg(test)]
 mod requests;
 #[cfg(test)]

@@ -1,241 +1,267 @@
-//! Pieces that a byte ends, or several.
-use crate::asks::Want::{End, Next, Rest, Wrong};
-use crate::asks::Why::{Long, Truncated};
-use crate::asks::{Asks, Want, Why, walk};
-use crate::by_hand::{by_hand, is_settled};
-use buffer_redux::MakeError;
-use buffer_redux::tell::TellRead;
-use codec::{
-    Decoder, Delimited, Ended, HeaderError, NextError, PieceReader, Terminated, TooLong, Trimmed,
-    Unended,
+//! Pieces, frames and lines, whole and byte by byte, with a fault at each read.
+use crate::asks::Row;
+use crate::readers::Kind::{
+    Aba, Bulk, Frames, LengthsOf, Lines, LinesOf, Net, SevenBits, Trim, Whole,
 };
+use crate::readers::{Kind, is_so, swept};
+use decoders::{Order, Width};
+use line_reader::trimmed;
 use redux_script::Answer;
 use std::alloc::Global;
 use std::io;
+use std::io::ErrorKind;
 use std::test::Fail;
-use tests_common::sweep::{Came, FAULT, Run, sweep};
-use tests_common::{Source, source};
-
-/// What a decoder finds wrong.
-pub trait Explained: Copy {
-    /// In one enum for all decoders.
-    fn why(self) -> Why;
-}
-
-impl Explained for TooLong {
-    fn why(self) -> Why {
-        Long(self.0)
-    }
-}
-
-impl Explained for HeaderError {
-    fn why(self) -> Why {
-        match self {
-            HeaderError::NoHeader => Why::NoHeader,
-            HeaderError::TooLong(len) => Long(len),
-            HeaderError::NoTail => Why::NoTail,
-            HeaderError::Truncated(have) => Why::Truncated(have),
-        }
-    }
-}
-
-impl<W: Explained> Explained for Unended<W> {
-    fn why(self) -> Why {
-        match self {
-            Unended::Wrong(e) => e.why(),
-            Unended::Cut(have) => Why::Truncated(have),
-        }
-    }
-}
-
-// A reader over the usual buffer. Neither it nor any call below promises anything.
-fn reader<R: TellRead + Drop, D: Decoder>(
-    alloc: Global,
-    decoder: D,
-    inner: R,
-) -> Result<PieceReader<R, D>, MakeError<(R, D)>> {
-    PieceReader::new(alloc, inner, decoder)
-}
-
-fn rest<R: TellRead, D: Decoder>(reader: &PieceReader<R, D>) -> &[u8] {
-    reader.rest()
-}
-
-fn step<R: TellRead, D: Decoder>(reader: &mut PieceReader<R, D>, want: Want<'_>) -> Option<bool>
-where
-    D::Wrong: Explained,
-{
-    match reader.step() {
-        Ok(Some(span)) => Some(matches!(want, Next(payload) if reader.lent(span) == payload)),
-        Ok(None) => Some(matches!(want, End)),
-        Err(NextError::Wrong(e)) => Some(matches!(want, Wrong(why) if e.why() == why)),
-        Err(NextError::Io(_)) => None,
-    }
-}
-
-impl<D: Decoder> Asks for PieceReader<Source, D>
-where
-    D::Wrong: Explained,
-{
-    fn answers(&mut self, want: Want<'_>) -> Option<bool> {
-        match want {
-            Next(_) | End | Wrong(_) => step(self, want),
-            _ => by_hand(self, want),
-        }
-    }
-
-    fn left(&self) -> &[u8] {
-        rest(self)
-    }
-
-    fn is_ready(&self) -> bool {
-        is_settled(self)
-    }
-
-    fn asked(&self) -> &[usize] {
-        self.get_ref().get_ref().offers()
-    }
-}
-
-/// The bytes of the stream, and call after call.
-pub type Row<'a> = (&'a [u8], &'a [Want<'a>]);
-
-// A row by this decoder.
-#[derive(Drop)]
-struct Decoded<'a, D>(&'a D, &'a Row<'a>);
-
-impl<D: Decoder + Copy> Run for Decoded<'_, D>
-where
-    D::Wrong: Explained,
-{
-    fn run(&self, alloc: Global, script: &[Answer]) -> io::Result<Option<Came>> {
-        let &Decoded(decoder, (bytes, wants)) = self;
-        let reader = reader(alloc, *decoder, source(alloc, bytes, script)?)?;
-        Ok(walk(reader, wants))
-    }
-}
-
-/// Each row in pieces of at most 7, 3, 2 and 1 bytes, with a fault at each call of the stream in turn, and without. How many
-/// faults were met, or which row went wrong.
-pub fn swept<D: Decoder + Copy>(
-    alloc: Global,
-    decoder: D,
-    rows: &[Row<'_>],
-) -> io::Result<Result<usize, (usize, usize)>>
-where
-    D::Wrong: Explained,
-{
-    let mut met = 0usize;
-    for (at, row) in rows.iter().enumerate() {
-        match sweep(alloc, &[Decoded(&decoder, row)], &[7, 3, 2, 1], FAULT)? {
-            Ok(count) => met = met.saturating_add(count),
-            Err((_, most)) => return Ok(Err((at, most))),
-        }
-    }
-    Ok(Ok(met))
-}
+use tests_common::sweep::FAULT;
 
 // The pieces are those of std's `split` at the byte, where none is too long.
-static LINES: [Row<'static>; 4] = [
-    (b"", &[End, End]),
-    (
-        b"a\n\n\nbc",
-        &[Next(b"a"), Next(b""), Next(b""), Next(b"bc"), End, End],
-    ),
-    (
-        b"abc\nabcd",
-        &[Next(b"abc"), Wrong(Long(3)), Wrong(Long(3)), Rest(b"abcd")],
-    ),
-    (b"\r\nab\r\n", &[Next(b"\r"), Next(b"ab\r"), End]),
+static LINES: [Row<'static>; 3] = [
+    (b"a\n\n\nbc", b"n a|n |n |n bc|n end|n end|"),
+    (b"abc\nabcd", b"n abc|n TooLong(3)|r abcd|"),
+    (b"\r\nab\r\n", b"n \r|n ab\r|n end|"),
 ];
-
-static EMPTY: [Row<'static>; 1] = [(b"\n\na", &[Next(b""), Next(b""), Wrong(Long(0))])];
-
-static RECORDS: [Row<'static>; 1] = [(
-    b"\xff\n\0\0\xc3",
-    &[Next(b"\xff\n"), Next(b""), Next(b"\xc3"), End],
-)];
 
 // The pieces are those of std's `lines`.
 static TRIMMED: [Row<'static>; 2] = [
-    (
-        b"a\r\nb\n\r\r\nc\r",
-        &[Next(b"a"), Next(b"b"), Next(b"\r"), Next(b"c\r"), End, End],
-    ),
-    (
-        b"ab\r\nabc\r",
-        &[Next(b"ab"), Wrong(Long(3)), Rest(b"abc\r")],
-    ),
+    (b"a\r\nb\n\r\r\nc\r", b"n a|n b|n \r|n c\r|n end|n end|"),
+    (b"ab\r\nabc\r", b"n ab|n TooLong(3)|r abc\r|"),
 ];
 
 // The same lines, but none that the stream ended in.
-static WHOLE: [Row<'static>; 3] = [
-    (b"", &[End, End]),
-    (b"a\nbc", &[Next(b"a"), Wrong(Truncated(2)), Rest(b"bc")]),
-    (b"abc\nabcd", &[Next(b"abc"), Wrong(Long(3))]),
-];
-
-#[test]
-fn ended(rt: HostRuntime) -> Result<(), Fail> {
-    let lines = Ended(Delimited { end: b'\n', max: 3 });
-    let met = swept(rt.alloc(), lines, &WHOLE)?;
-    assert!(rt; met == Ok(38), "{met:?}");
-    Ok(())
-}
-
-#[test]
-fn delimited(rt: HostRuntime) -> Result<(), Fail> {
-    let alloc = rt.alloc();
-    let lines = swept(alloc, Delimited { end: b'\n', max: 3 }, &LINES)?;
-    let empty = swept(alloc, Delimited { end: b'\n', max: 0 }, &EMPTY)?;
-    let records = swept(alloc, Delimited { end: 0, max: 3 }, &RECORDS)?;
-    let trimmed = swept(alloc, Trimmed(Delimited { end: b'\n', max: 3 }), &TRIMMED)?;
-    let met = (lines, empty, records, trimmed);
-    assert!(rt; met == (Ok(61), Ok(7), Ok(15), Ok(46)), "{met:?}");
-    Ok(())
-}
+static WHOLE: [Row<'static>; 2] = [(b"", b"n end|n end|"), (b"a\nbc", b"n a|n Cut(2)|r bc|")];
 
 // The pieces are those of Python's `split` at `aba`, where none is too long.
-static SEVERAL: [Row<'static>; 7] = [
-    (b"", &[End, End]),
-    (
-        b"xabaababaz",
-        &[Next(b"x"), Next(b""), Next(b"baz"), End, End],
-    ),
-    (b"wxyzaba", &[Next(b"wxyz"), End]),
-    (
-        b"abxyzab",
-        &[Wrong(Long(4)), Wrong(Long(4)), Rest(b"abxyzab")],
-    ),
-    (b"abcdabx", &[Wrong(Long(4))]),
-    (b"ab", &[Next(b"ab"), End, End]),
-    (b"wxyzv", &[Wrong(Long(4)), Wrong(Long(4)), Rest(b"wxyzv")]),
+static SEVERAL: [Row<'static>; 3] = [
+    (b"xabaababaz", b"n x|n |n baz|n end|n end|"),
+    (b"wxyzaba", b"n wxyz|n end|"),
+    (b"abxyzab", b"n TooLong(4)|r abxyzab|"),
 ];
 
-// A row by the bytes `aba`.
-#[derive(Drop)]
-struct Terminates<'a>(&'a Row<'a>);
+// `12:hello world!,` is the example of the paper that has netstrings from.
+static NETSTRINGS: [Row<'static>; 5] = [
+    (
+        b"3:abc,0:,12:hello world!,",
+        b"n abc|n |n hello world!|n end|n end|",
+    ),
+    (b"1:a,5x", b"n a|n NoHeader|r 5x|"),
+    // No length without a digit, and no zero in front of another.
+    (b"0:,:,", b"n |n NoHeader|"),
+    (b"0:,01:a,", b"n |n NoHeader|"),
+    (b"1:ab", b"n NoTail|r 1:ab|"),
+];
 
-impl Run for Terminates<'_> {
-    fn run(&self, alloc: Global, script: &[Answer]) -> io::Result<Option<Came>> {
-        let &(bytes, wants) = self.0;
-        let end = Vec::from_slice(alloc, b"aba")?;
-        let decoder = Terminated { end, max: 4 };
-        let reader = reader(alloc, decoder, source(alloc, bytes, script)?)?;
-        Ok(walk(reader, wants))
+// What is too long is so before more of it came.
+static LIMITS: [Row<'static>; 5] = [
+    (b"13:", b"n TooLong(13)|r 13:|"),
+    (b"999999999999999999:", b"n TooLong(999999999999999999)|"),
+    (b"9999999999999999999:", b"n NoHeader|"),
+    (b"3:ab", b"n Truncated(4)|"),
+    (b"3:abc", b"n Truncated(5)|"),
+];
+
+static STRINGS: [Row<'static>; 5] = [
+    (b"$5\r\nhello\r\n$0\r\n\r\n", b"n hello|n |n end|"),
+    (b"$2\r\n\r\n\r\n", b"n \r\n|n end|"),
+    (b"$-1\r\n", b"n NoHeader|"),
+    (b"$1\na\r\n", b"n NoHeader|"),
+    (b"$1\r\na\n\r", b"n NoTail|"),
+];
+
+static ONE: [Row<'static>; 1] = [(b"\x02hi\0\x04", b"n hi|n |n TooLong(4)|r \x04|")];
+
+static BIG: [Row<'static>; 3] = [
+    (b"\0\x02hi\0\0", b"n hi|n |n end|"),
+    (b"\x01\0", b"n TooLong(256)|"),
+    (b"\0\x03ab", b"n Truncated(4)|r \0\x03ab|"),
+];
+
+static LITTLE: [Row<'static>; 1] = [(b"\x02\0\0\0hi\0\0\0\0", b"n hi|n |n end|")];
+
+// The greatest length of all takes no sum and no memory.
+static EIGHT: [Row<'static>; 2] = [
+    (b"\0\0\0\0\0\0\0\x01a", b"n a|n end|"),
+    (
+        b"\xff\xff\xff\xff\xff\xff\xff\xff",
+        b"n TooLong(18446744073709551615)|",
+    ),
+];
+
+// Lengths of MQTT 3.1.1, table 2.4, and the example of Protocol Buffers' encoding, 300.
+static VARINTS: [Row<'static>; 6] = [
+    (b"\x02hi\0", b"n hi|n |n end|"),
+    (b"\xac\x02", b"n TooLong(300)|"),
+    (b"\xff\xff\x7f", b"n TooLong(2097151)|"),
+    (b"\xff\xff\xff\x7f", b"n TooLong(268435455)|"),
+    (b"\xff\xff\xff\xff", b"n NoHeader|"),
+    (b"\x80", b"n Truncated(1)|"),
+];
+
+static FRAMES: [Row<'static>; 4] = [
+    (b"\x00\x03abc\x00\x00\x00\x02d", b"n abc|n |n Truncated(3)|"),
+    (b"\x00\x04", b"n TooLong(4)|"),
+    (b"", b"n end|n end|"),
+    (b"\x00\x01a\x00\x01b", b"n a|n b|n end|"),
+];
+
+// The higher byte of a length comes first: these are 256 bytes.
+static LONG: [Row<'static>; 1] = [(b"\x01\x00", b"n TooLong(256)|")];
+
+// The lines are those of std's `read_until` without their ends, and those that are trimmed are those of its `lines`.
+static LINES_OF: [Row<'static>; 5] = [
+    (b"a\n\n\nbc", b"n a|n |n |n bc|n end|n end|"),
+    (b"abc\nabcd", b"n abc|n TooLong(3)|"),
+    // Nothing is decoded.
+    (b"\xff\0\n\xc3", b"n \xff\0|n \xc3|n end|"),
+    (b"a\r\n\r\r\nb\na\rb\n", b"t a|t \r|t b|t a\rb|t end|"),
+    (b"ab\r\n\nab\r", b"t ab|n |t ab\r|n end|"),
+];
+
+// Whether these are so with such a fault at each call.
+fn are_so(alloc: Global, tables: &[(Kind, &[Row<'_>])], fault: Answer) -> io::Result<bool> {
+    for &(kind, rows) in tables {
+        if swept(alloc, kind, rows, fault)?.is_err() {
+            return Ok(false);
+        }
     }
+    Ok(true)
 }
 
 #[test]
-fn terminated(rt: HostRuntime) -> Result<(), Fail> {
-    let alloc = rt.alloc();
-    let mut met = 0usize;
-    for row in &SEVERAL {
-        match sweep(alloc, &[Terminates(row)], &[7, 3, 2, 1], FAULT)? {
-            Ok(count) => met = met.saturating_add(count),
-            Err(at) => assert!(rt; false, "{at:?}"),
-        }
+fn by_their_ends(rt: HostRuntime) -> Result<(), Fail> {
+    let tables: [(Kind, &[Row<'_>]); 5] = [
+        (Lines(3), &LINES),
+        (Trim, &TRIMMED),
+        (Whole, &WHOLE),
+        (Aba, &SEVERAL),
+        (LinesOf(3), &LINES_OF),
+    ];
+    assert!(rt; are_so(rt.alloc(), &tables, FAULT)?);
+    assert!(rt; are_so(rt.alloc(), &tables, Answer::Interrupt(1))?);
+    Ok(())
+}
+
+#[test]
+fn by_their_lengths(rt: HostRuntime) -> Result<(), Fail> {
+    let tables: [(Kind, &[Row<'_>]); 10] = [
+        (Net, &NETSTRINGS),
+        (Net, &LIMITS),
+        (Bulk, &STRINGS),
+        (LengthsOf(Width::One, Order::BigEndian), &ONE),
+        (LengthsOf(Width::Two, Order::BigEndian), &BIG),
+        (LengthsOf(Width::Four, Order::LittleEndian), &LITTLE),
+        (LengthsOf(Width::Eight, Order::BigEndian), &EIGHT),
+        (SevenBits, &VARINTS),
+        (Frames(3), &FRAMES),
+        (Frames(255), &LONG),
+    ];
+    assert!(rt; are_so(rt.alloc(), &tables, FAULT)?);
+    Ok(())
+}
+
+const FAILS: Answer = Answer::Fail(ErrorKind::TimedOut);
+
+// What the stream answers, and what comes of it.
+static SCRIPTED: [(Kind, &[Answer], Row<'static>); 10] = [
+    (
+        Lines(3),
+        &[Answer::Serve(5)],
+        (
+            b"ab\ncd",
+            b"s false|b none|a 0|f true|s true|b ab|s false|l 0|b none|l 2|r cd|a 1|n cd|e true|s true|b none|n end|e false|a 2|",
+        ),
+    ),
+    (
+        Lines(3),
+        &[FAILS],
+        (
+            b"a\n",
+            b"f failed|f true|a 2|n a|f false|e true|a 3|n end|a 3|",
+        ),
+    ),
+    (
+        Lines(3),
+        &[],
+        (
+            b"abcdef\ng",
+            b"f true|s true|b none|n TooLong(3)|d |l 0|s false|n g|n end|",
+        ),
+    ),
+    (
+        Lines(3),
+        &[Answer::Serve(3), FAILS],
+        (b"a\nbcd\n", b"n a|p failed|p c|n bd|a 4|"),
+    ),
+    // Two frames come in one read; and the stream fails within a length, and gives the rest in one read.
+    (
+        Frames(3),
+        &[],
+        (
+            b"\x00\x01a\x00\x01b",
+            b"s false|n a|r \x00\x01b|s true|n b|a 1|",
+        ),
+    ),
+    (
+        Frames(3),
+        &[Answer::Serve(1), FAILS],
+        (b"\x00\x01a", b"n failed|r \x00|n a|n end|a 4|"),
+    ),
+    // Lines that are dropped, of which one is whole, and one is too long.
+    (
+        LinesOf(3),
+        &[Answer::ServeEach(1)],
+        (
+            b"ab\nabcdefghijklmnopqrst\nab",
+            b"n ab|n TooLong(3)|d 21|n ab|n end|d 0|",
+        ),
+    ),
+    (
+        LinesOf(3),
+        &[Answer::Serve(3), FAILS],
+        (
+            b"abcdef\nok",
+            b"d failed|k true|s false|n ok|k false|s true|n end|",
+        ),
+    ),
+    (
+        LinesOf(3),
+        &[Answer::Serve(3)],
+        (b"a\nbcd\n", b"s false|n a|p c|n bd|a 3|"),
+    ),
+    // A terminal that ends after three bytes of a line, and goes on.
+    (
+        LinesOf(3),
+        &[
+            Answer::Serve(7),
+            Answer::Serve(0),
+            Answer::Serve(2),
+            Answer::Serve(0),
+        ],
+        (
+            b"a\nb\ncdef\ng\n",
+            b"t a|s true|d 2|a 1|n cde|n end|a 2|d 2|a 3|d 0|n end|a 4|n g|",
+        ),
+    ),
+];
+
+#[test]
+fn as_the_stream_gives(rt: HostRuntime) -> Result<(), Fail> {
+    for (at, &(kind, script, row)) in SCRIPTED.iter().enumerate() {
+        assert!(rt; is_so(rt.alloc(), kind, script, &row)?, "row {at}");
     }
-    assert!(rt; met == 118, "{met}");
+    Ok(())
+}
+
+// As std's `lines` has it.
+static TRIMS: [(&'static [u8], &'static [u8]); 4] = [
+    (b"", b""),
+    (b"a\r", b"a"),
+    (b"\r\r", b"\r"),
+    (b"\ra", b"\ra"),
+];
+
+#[test]
+fn trims_lines(rt: HostRuntime) -> Result<(), Fail> {
+    for &(line, want) in &TRIMS {
+        assert!(rt; trimmed(line) == want);
+    }
     Ok(())
 }

@@ -1,128 +1,95 @@
 //! Heads of requests, and messages one after another.
-use crate::by_hand::gives;
-use Went::{Before, Inside, Passed, Refused};
+use crate::asks::{Log, gives};
 use buffer_redux::Buffer;
 use buffer_redux::tell::TellRead;
 use messages::laws::{Stopped, pass};
-use messages::{
-    BadHead, Body, BodyError, Extent, Limits, ParsedHead, Requests, Stop, read_head,
-    read_head_within,
-};
+use messages::{BadHead, Body, Limits, ParsedHead, Requests, Stop, read_head, read_head_within};
 use std::alloc::Global;
 use std::io;
 use std::test::Fail;
 use tests_common::{Source, holding, read, source};
 
-// What a head says that has no body, and behind which another request may come.
-const PLAIN: ParsedHead = ParsedHead {
-    extent: Extent::Sized(0),
-    bare: false,
-    keeps: true,
-    expects: false,
-    met: true,
-};
-
-// What one says behind which none comes.
-const LAST: ParsedHead = ParsedHead {
-    extent: Extent::Sized(0),
-    bare: false,
-    keeps: false,
-    expects: false,
-    met: true,
-};
-
 // Heads, and what they say by RFC 9112, sections 3, 6 and 9.3, and RFC 9110, section 10.1.1, or why they are none.
-static HEADS: [(&'static [u8], Result<ParsedHead, BadHead>); 15] = [
-    (b"GET / HTTP/1.1\r\nHost: a\r\n\r\n", Ok(PLAIN)),
+static HEADS: [(&'static [u8], &'static [u8]); 8] = [
+    (b"GET / HTTP/1.1\r\nHost: a\r\n\r\n", b"Sized(0) keeps met"),
     (
         b"HEAD / HTTP/1.1\r\nHost: a\r\nConnection: close\r\n\r\n",
-        Ok(ParsedHead {
-            extent: Extent::Sized(0),
-            bare: true,
-            keeps: false,
-            expects: false,
-            met: true,
-        }),
+        b"Sized(0) bare met",
     ),
     (
         b"PUT /a HTTP/1.1\r\nHost: a\r\nContent-Length: 5\r\nExpect: 100-continue\r\n\r\n",
-        Ok(ParsedHead {
-            extent: Extent::Sized(5),
-            bare: false,
-            keeps: true,
-            expects: true,
-            met: true,
-        }),
+        b"Sized(5) keeps expects met",
     ),
     (
         b"POST /a HTTP/1.1\r\nHost: a\r\nTransfer-Encoding: chunked\r\n\r\n",
-        Ok(ParsedHead {
-            extent: Extent::Chunked,
-            bare: false,
-            keeps: true,
-            expects: false,
-            met: true,
-        }),
+        b"Chunked keeps met",
     ),
     (
         b"GET /a HTTP/1.1\r\nHost: a\r\nExpect: 101-continue\r\n\r\n",
-        Ok(ParsedHead {
-            extent: Extent::Sized(0),
-            bare: false,
-            keeps: true,
-            expects: false,
-            met: false,
-        }),
+        b"Sized(0) keeps",
     ),
-    (b"GET / HTTP/1.0\r\n\r\n", Ok(LAST)),
+    (b"GET / HTTP/1.0\r\n\r\n", b"Sized(0) met"),
     (
         b"GET / HTTP/1.0\r\nConnection: keep-alive\r\n\r\n",
-        Ok(PLAIN),
+        b"Sized(0) keeps met",
     ),
-    (b"GET / HTTP/1.1\r\n\r\n", Err(BadHead::Refused)),
-    (b"GET / HTTP/1.1\r\nHost: a\r\n\r\nb", Err(BadHead::Refused)),
-    (b"GET / HTTP/2.0\r\nHost: a\r\n\r\n", Err(BadHead::Version)),
-    (
-        b"CONNECT a:80 HTTP/1.1\r\nHost: a:80\r\n\r\n",
-        Err(BadHead::Tunnel),
-    ),
+    (b"GET / HTTP/1.1\r\n\r\n", b"Refused"),
+];
+
+static NONE: [(&'static [u8], &'static [u8]); 7] = [
+    (b"GET / HTTP/1.1\r\nHost: a\r\n\r\nb", b"Refused"),
+    (b"GET / HTTP/2.0\r\nHost: a\r\n\r\n", b"Version"),
+    (b"CONNECT a:80 HTTP/1.1\r\nHost: a:80\r\n\r\n", b"Tunnel"),
     (
         b"PUT / HTTP/1.1\r\nHost: a\r\nContent-Length: 5\r\nContent-Length: 6\r\n\r\n",
-        Err(BadHead::Refused),
+        b"Refused",
     ),
     (
         b"PUT / HTTP/1.1\r\nHost: a\r\nContent-Length: 5\r\nTransfer-Encoding: chunked\r\n\r\n",
-        Err(BadHead::Refused),
+        b"Refused",
     ),
     (
         b"PUT / HTTP/1.1\r\nHost: a\r\nTransfer-Encoding: gzip\r\n\r\n",
-        Err(BadHead::Refused),
+        b"Refused",
     ),
     (
         b"PUT / HTTP/1.1\r\nHost: a\r\nTransfer-Encoding: gzip, chunked\r\n\r\n",
-        Err(BadHead::Coding),
+        b"Coding",
     ),
 ];
 
-#[test]
-fn reads_heads(rt: HostRuntime) -> Result<(), Fail> {
-    for (row, &(head, said)) in HEADS.iter().enumerate() {
-        assert!(rt; read_head(head) == said, "row {row}");
+fn note_if(is_so: bool, word: &[u8], log: &mut Log) {
+    if is_so {
+        log.note(word);
     }
-    Ok(())
 }
 
-// What came of messages that were passed.
-#[derive(Clone, Copy, PartialEq, Eq)]
-enum Went {
-    // So many bytes are buffered behind them.
-    Passed(usize),
-    // The stream ended before a head.
-    Before,
-    // It ended within a body, before so many bytes of it where its length is known.
-    Inside(Option<u64>),
-    // What comes is no head, for this reason.
-    Refused(BadHead),
+fn note_head(head: ParsedHead, log: &mut Log) {
+    log.show_debug(&head.extent);
+    note_if(head.bare, b" bare", log);
+    note_if(head.keeps, b" keeps", log);
+    note_if(head.expects, b" expects", log);
+    note_if(head.met, b" met", log);
+}
+
+// Whether a head says this.
+fn says(alloc: Global, head: &[u8], said: &[u8]) -> bool {
+    let mut log = Log::new(alloc);
+    match read_head(head) {
+        Ok(head) => note_head(head, &mut log),
+        Err(why) => log.show_debug(&why),
+    }
+    log.is(said)
+}
+
+#[test]
+fn reads_heads(rt: HostRuntime) -> Result<(), Fail> {
+    for rows in [HEADS.as_slice(), &NONE] {
+        for (row, &(head, said)) in rows.iter().enumerate() {
+            assert!(rt; says(rt.alloc(), head, said), "row {row}");
+        }
+    }
+    Ok(())
 }
 
 const TWO: &[u8] =
@@ -133,14 +100,25 @@ const CUT: &[u8] = b"PUT /b HTTP/1.1\r\nHost: h\r\nContent-Length: 3\r\n\r\nok";
 const CUT_CHUNKS: &[u8] =
     b"PUT /b HTTP/1.1\r\nHost: h\r\nTransfer-Encoding: chunked\r\n\r\n2\r\nok\r\n0\r\n";
 
-// What is given, how many messages are passed, and what comes of that.
-static PASSED: [(&'static [u8], usize, Went); 6] = [
-    (TWO, 0, Passed(8)),
-    (TWO, 1, Passed(49)),
-    (TWO, 2, Passed(0)),
-    (TWO, 3, Before),
-    (CUT, 1, Inside(Some(1))),
-    (CUT_CHUNKS, 1, Inside(None)),
+// What is given, how many messages are passed, and how many bytes are buffered then, or why they aren't passed.
+static PASSED: [(&'static [u8], usize, &'static [u8]); 6] = [
+    (TWO, 0, b"8"),
+    (TWO, 1, b"49"),
+    (TWO, 2, b"0"),
+    (TWO, 3, b"Ended"),
+    (CUT, 1, b"Truncated(Some(1))"),
+    (CUT_CHUNKS, 1, b"Truncated(None)"),
+];
+
+// The same of what comes in place of a head.
+static NO_HEADS: [(&'static [u8], usize, &'static [u8]); 7] = [
+    (b"GET / HTTP/1.1\nHost: a\r\n\r\n", 1, b"BareEnd"),
+    (b"GET / HTTP/1.1\r\nHost: a\rb\r\n\r\n", 1, b"BareEnd"),
+    (b"GET / HTTP/1.1\r\nHost: a\r\n", 1, b"CutShort(25)"),
+    (b"SSH-2.0-x\r\n", 1, b"Refused"),
+    (b"\x16\x03\x01", 1, b"Refused"),
+    (b"GET / HTTP/2.0\r", 1, b"Version"),
+    (b"GET / HTTP/1.9\r", 1, b"CutShort(15)"),
 ];
 
 // A reader over a buffer that holds the first eight bytes, with no room for a head.
@@ -159,117 +137,57 @@ fn again<R: TellRead + Drop>(alloc: Global, requests: Requests<R>) -> io::Result
     Ok(Requests::with_buffers(alloc, buffer, head, inner)?)
 }
 
-// How many bytes are buffered.
-fn buffered<R: TellRead + Drop>(requests: &Requests<R>) -> usize {
-    requests.buffered().len()
-}
-
-// Where it stopped, if that is what a stream that ended makes of it.
-fn stopped_at<R: TellRead + Drop>(stopped: Stopped<R>) -> Option<Went> {
+// Notes where it stopped.
+fn note_stop<R: TellRead + Drop>(stopped: Stopped<R>, log: &mut Log) {
     match stopped {
         Stopped::Before(_requests, stop) => match &stop {
-            Stop::Ended => Some(Before),
-            Stop::Bad(why) => Some(Refused(*why)),
-            Stop::Io(_) => None,
+            Stop::Bad(why) => log.show_debug(why),
+            _ => log.show_debug(&stop),
         },
-        Stopped::Inside(_body, e) => match &e {
-            BodyError::Truncated(due) => Some(Inside(*due)),
-            _ => None,
-        },
+        Stopped::Inside(_body, e) => log.show_debug(&e),
     }
 }
 
-fn passes(alloc: Global, bytes: &[u8], count: usize) -> io::Result<Option<Went>> {
-    Ok(match pass(again(alloc, over(alloc, bytes)?)?, count) {
-        Ok(next) => Some(Passed(buffered(&next))),
-        Err(stopped) => stopped_at(stopped),
-    })
+// Whether what comes of messages that are passed is this.
+fn passes(alloc: Global, bytes: &[u8], count: usize, went: &[u8]) -> io::Result<bool> {
+    let mut log = Log::new(alloc);
+    match pass(again(alloc, over(alloc, bytes)?)?, count) {
+        Ok(next) => log.show(&next.buffered().len()),
+        Err(stopped) => note_stop(stopped, &mut log),
+    }
+    Ok(log.is(went))
 }
 
 #[test]
 fn passes_messages(rt: HostRuntime) -> Result<(), Fail> {
-    for (row, &(bytes, count, went)) in PASSED.iter().enumerate() {
-        assert!(rt;
-            passes(rt.alloc(), bytes, count)? == Some(went),
-            "row {row}"
-        );
+    for rows in [PASSED.as_slice(), &NO_HEADS] {
+        for (row, &(bytes, count, went)) in rows.iter().enumerate() {
+            assert!(rt; passes(rt.alloc(), bytes, count, went)?, "row {row}");
+        }
     }
     Ok(())
 }
 
-// What comes in place of a head, and the name of what is wrong: so often a text between two others.
-static NO_HEADS: [(&'static [u8], usize, &'static [u8], &'static [u8], BadHead); 10] = [
-    (
-        b"GET / HTTP/1.1\n",
-        1,
-        b"Host: a\r\n",
-        b"\r\n",
-        BadHead::BareEnd,
-    ),
-    (
-        b"GET / HTTP/1.1\r\nHost: a\r",
-        1,
-        b"b",
-        b"\r\n\r\n",
-        BadHead::BareEnd,
-    ),
-    (
-        b"GET /",
-        16384,
-        b"a",
-        b" HTTP/1.1\r\n\r\n",
-        BadHead::LongLine,
-    ),
-    (
-        b"GET / HTTP/1.1\r\nHost: ",
-        16384,
-        b"a",
-        b"\r\n\r\n",
-        BadHead::LongHead,
-    ),
-    (
-        b"GET / HTTP/1.1\r\n",
-        65,
-        b"Host: a\r\n",
-        b"\r\n",
-        BadHead::ManyFields,
-    ),
-    (
-        b"GET / HTTP/1.1\r\n",
-        2,
-        b"Host: a\r\n",
-        b"",
-        BadHead::CutShort(34),
-    ),
-    (b"SSH-2.0-x\r\n", 0, b"", b"", BadHead::Refused),
-    (b"\x16\x03\x01", 0, b"", b"", BadHead::Refused),
-    (b"GET / HTTP/2.0\r", 0, b"", b"", BadHead::Version),
-    (b"GET / HTTP/1.9\r", 0, b"", b"", BadHead::CutShort(15)),
+// So much of a text behind another, and the name of that.
+static TOO_MUCH: [(&'static [u8], usize, &'static [u8], &'static [u8]); 3] = [
+    (b"GET /", 16384, b"a", b"LongLine"),
+    (b"GET / HTTP/1.1\r\nHost: ", 16384, b"a", b"LongHead"),
+    (b"GET / HTTP/1.1\r\n", 65, b"Host: a\r\n", b"ManyFields"),
 ];
 
-fn comes(
-    alloc: Global,
-    front: &[u8],
-    count: usize,
-    many: &[u8],
-    behind: &[u8],
-) -> io::Result<Option<Went>> {
-    let mut text = Vec::new(alloc);
-    text.extend_from_slice(front)?;
+fn refuses(alloc: Global, front: &[u8], count: usize, many: &[u8], why: &[u8]) -> io::Result<bool> {
+    let mut text = Vec::from_slice(alloc, front)?;
     for _ in 0..count {
         text.extend_from_slice(many)?;
     }
-    text.extend_from_slice(behind)?;
-    passes(alloc, &text, 1)
+    text.extend_from_slice(b"\r\n\r\n")?;
+    passes(alloc, &text, 1, why)
 }
 
 #[test]
-fn names_what_is_no_head(rt: HostRuntime) -> Result<(), Fail> {
-    for (row, &(front, count, many, behind, why)) in NO_HEADS.iter().enumerate() {
-        assert!(rt;
-            comes(rt.alloc(), front, count, many, behind)? == Some(Refused(why)),
-            "row {row}"
-        );
+fn refuses_too_much(rt: HostRuntime) -> Result<(), Fail> {
+    for &(front, count, many, why) in &TOO_MUCH {
+        assert!(rt; refuses(rt.alloc(), front, count, many, why)?, "{count}");
     }
     Ok(())
 }
@@ -320,34 +238,19 @@ fn keeps_to_limits(rt: HostRuntime) -> Result<(), Fail> {
     Ok(())
 }
 
-// Whether a body has this head.
-fn has_head<R: TellRead + Drop>(body: Body<R>, head: &[u8]) -> bool {
-    body.head() == head
-}
-
-#[test]
-fn shows_a_head(rt: HostRuntime) -> Result<(), Fail> {
-    let requests = over(rt.alloc(), TWO)?;
-    assert!(rt; requests.get_ref().get_ref().offers().is_empty());
-    let shown = match requests.next() {
-        Ok(body) => has_head(body, b"GET /a HTTP/1.1\r\nHost: h\r\n\r\n"),
-        Err(_) => false,
-    };
-    assert!(rt; shown);
-    Ok(())
-}
-
 const PUT: &[u8] = b"PUT /b HTTP/1.1\r\nHost: h\r\nContent-Length: 5\r\n\r\nhello";
 
-// Whether a body is read as a stream is, two bytes and then one, and left with the others.
+// Whether a body shows its head, is read as a stream is, two bytes and then one, and left with the others.
 fn is_left<R: TellRead + Drop>(body: Body<R>) -> bool {
     let mut body = body;
+    let shown = Some(body.head()) == PUT.get(..PUT.len() - 5);
     let told = gives(&mut body, b"he");
     let mut out = [0; 1];
     let count = read(&mut body, &mut out);
     let past = gives(body.get_mut(), b"?");
     let (reader, head) = body.into_inner_torn();
-    told == Some(true)
+    shown
+        && told == Some(true)
         && matches!(count, Ok(1))
         && out == *b"l"
         && past == Some(false)
@@ -357,7 +260,9 @@ fn is_left<R: TellRead + Drop>(body: Body<R>) -> bool {
 
 #[test]
 fn leaves_a_body(rt: HostRuntime) -> Result<(), Fail> {
-    let left = match over(rt.alloc(), PUT)?.next() {
+    let requests = over(rt.alloc(), PUT)?;
+    assert!(rt; requests.get_ref().get_ref().offers().is_empty());
+    let left = match requests.next() {
         Ok(body) => body.get_ref().get_ref().offers().len() == 1 && is_left(body),
         Err(_) => false,
     };

@@ -1,180 +1,147 @@
-//! What the errors say, and what is printed of a reader and a writer of a body.
-use crate::{bodies, chunks};
-use buffer_redux::GrowError;
+//! What errors print and as which kind of I/O error they go on, and what is printed of a reader and a writer of a body.
+use crate::asks::Log;
+use crate::chunks;
 use buffer_redux::tell::Told;
-use chunked::Malformed::{
-    BadField, BadSize, BareFeed, BareReturn, ChunkTooLong, LineTooLong, NoSize, SizeTooLarge,
-    TrailersTooLong,
+use chunked::{
+    Chunked, ChunkedError, ChunkedReader, FinishError, Limits, Malformed, TrailersError,
 };
-use chunked::{ChunkedError, ChunkedReader, FinishError, Malformed, TrailersError};
+use codec::{HeaderError, NotPlain, TooLong, Unended};
 use frame_reader::{FrameError, WriteFrameError};
 use line_reader::LineError;
-use std::alloc::{AllocError, Global};
-use std::fmt::Display;
+use std::alloc::Global;
+use std::fmt::{Debug, Display};
 use std::io;
 use std::io::ErrorKind;
 use std::test::Fail;
-use tests_common::{debug, display, reader, shown, writer};
+use tests_common::{reader, writer};
 
 // The fault of a stream, whose text is "timed out".
 fn fault() -> io::Error {
     io::Error::from(ErrorKind::TimedOut)
 }
 
-// The texts for readers, a line each.
-fn lines<E: Display>(alloc: Global, errors: &[E]) -> Result<String, AllocError> {
-    let mut all = String::new(alloc);
-    for error in errors {
-        all.push_str(display(alloc, error)?.as_str())?;
-        all.push_str("\n")?;
+// Its text, and the end of a line.
+fn says<E: Display>(log: &mut Log, error: &E) {
+    log.show(error);
+    log.note(b"\n");
+}
+
+// Its text, and its kind as an I/O error, each on a line.
+fn tells<E: Display + Into<io::Error> + Drop>(log: &mut Log, error: E) {
+    says(log, &error);
+    log.show_debug(&error.into().kind());
+    log.note(b"\n");
+}
+
+fn of_pieces(log: &mut Log) {
+    says(log, &HeaderError::NoHeader);
+    says(log, &HeaderError::TooLong(4));
+    says(log, &HeaderError::NoTail);
+    says(log, &HeaderError::Truncated(4));
+    says(log, &Unended::Wrong(TooLong(3)));
+    says(log, &Unended::<TooLong>::Cut(4));
+    says(log, &NotPlain::HasEnd);
+    says(log, &NotPlain::TooLong(4));
+}
+
+fn of_frames(log: &mut Log) {
+    says(log, &FrameError::Truncated(3));
+    says(log, &FrameError::TooLong(4));
+    says(log, &FrameError::from(fault()));
+    says(log, &WriteFrameError::TooLong(4));
+    says(log, &WriteFrameError::from(fault()));
+}
+
+fn of_lines_and_bodies(log: &mut Log) {
+    tells(log, LineError::TooLong(4));
+    tells(log, LineError::from(fault()));
+    tells(log, ChunkedError::Truncated(7));
+    tells(log, ChunkedError::Wrong(Malformed::BadSize, 7));
+    tells(log, ChunkedError::from(fault()));
+    tells(log, FinishError(7, TrailersError::NoField(7)));
+    tells(log, FinishError(7, TrailersError::Framing(7)));
+    tells(log, FinishError(7, TrailersError::TooLong));
+    tells(log, FinishError(7, TrailersError::Due(7)));
+    tells(log, FinishError(7, TrailersError::Io(fault())));
+}
+
+static TOLD: &[u8] = b"no piece begins so
+a payload of 4 bytes is too long
+a payload is not followed by its tail
+the stream ended after 4 bytes of a piece
+a payload of more than 3 bytes is too long
+the stream ended after 4 bytes of a piece
+a payload has the byte that ends it
+a payload of 4 bytes is too long
+the stream ended after 3 bytes of a frame
+a frame of 4 bytes is too long
+timed out
+a payload of 4 bytes is too long
+timed out
+a line of more than 4 bytes is too long
+InvalidData
+timed out
+TimedOut
+the stream ended after 7 bytes of a body
+UnexpectedEof
+a wrong byte in the line of a size, behind 7 bytes of a body
+InvalidData
+timed out
+TimedOut
+line 7 of the trailers isn't a name, a colon and a value
+InvalidInput
+line 7 of the trailers says where the body ends
+InvalidInput
+the trailers don't fit into the buffer
+InvalidInput
+a chunk lacks 7 bytes
+InvalidInput
+timed out
+TimedOut
+";
+
+#[test]
+fn of_errors(rt: HostRuntime) {
+    let mut log = Log::new(rt.alloc());
+    of_pieces(&mut log);
+    of_frames(&mut log);
+    of_lines_and_bodies(&mut log);
+    assert!(rt; log.is(TOLD));
+}
+
+fn shows<T: Debug + Drop>(log: &mut Log, value: T) {
+    log.show_debug(&value);
+    log.note(b"\n");
+}
+
+// What is printed of a reader of a body that was not begun, and of a writer.
+fn bodies(alloc: Global, log: &mut Log) -> io::Result<()> {
+    let limits = Limits {
+        line: 9,
+        trailers: 9,
+    };
+    let inner = reader(alloc, 8, b"", Told::new(b"".as_slice()))?;
+    if inner.capacity() > 0 {
+        shows(log, ChunkedReader::new(inner, Chunked(limits)));
     }
-    Ok(all)
-}
-
-#[test]
-fn of_frames(rt: HostRuntime) -> Result<(), Fail> {
-    let errors = [
-        FrameError::Truncated(3),
-        FrameError::TooLong(4),
-        FrameError::from(fault()),
-    ];
-    let came = lines(rt.alloc(), &errors)?;
-    let text =
-        "the stream ended after 3 bytes of a frame\na frame of 4 bytes is too long\ntimed out\n";
-    assert!(rt; came.as_str() == text, "{came}");
-    Ok(())
-}
-
-#[test]
-fn of_written_frames(rt: HostRuntime) -> Result<(), Fail> {
-    let errors = [WriteFrameError::TooLong(4), WriteFrameError::from(fault())];
-    let came = lines(rt.alloc(), &errors)?;
-    assert!(rt;
-        came.as_str() == "a payload of 4 bytes is too long\ntimed out\n",
-        "{came}"
+    shows(
+        log,
+        chunks::over(writer(alloc, 45, b"", Told::new(Vec::new(alloc)))?)?,
     );
     Ok(())
 }
 
-#[test]
-fn of_lines(rt: HostRuntime) -> Result<(), Fail> {
-    let errors = [LineError::TooLong(4), LineError::from(fault())];
-    let came = lines(rt.alloc(), &errors)?;
-    assert!(rt;
-        came.as_str() == "a line of more than 4 bytes is too long\ntimed out\n",
-        "{came}"
-    );
-    assert!(rt; debug(rt.alloc(), &errors[0])?.as_str() == "TooLong(4)");
-    Ok(())
-}
-
-static WRONG: [(Malformed, &str); 9] = [
-    (NoSize, "a chunk without a size, behind 7 bytes of a body"),
-    (
-        BadSize,
-        "a wrong byte in the line of a size, behind 7 bytes of a body",
-    ),
-    (
-        BadField,
-        "a wrong byte in a line of the trailers, behind 7 bytes of a body",
-    ),
-    (
-        SizeTooLarge,
-        "a size of 2^62 or more, behind 7 bytes of a body",
-    ),
-    (
-        LineTooLong,
-        "the line of a size is too long, behind 7 bytes of a body",
-    ),
-    (
-        TrailersTooLong,
-        "the trailers are too long, behind 7 bytes of a body",
-    ),
-    (BareReturn, "a CR without an LF, behind 7 bytes of a body"),
-    (BareFeed, "an LF without a CR, behind 7 bytes of a body"),
-    (
-        ChunkTooLong,
-        "a chunk is longer than its size, behind 7 bytes of a body",
-    ),
-];
+static SHOWN: &[u8] =
+    b"body_reader::BodyReader { reader: buffer_redux::BufReader { reader: Told { stream: [] }, buf_len: 0, \
+capacity: 8, policy: StdPolicy }, place: Line, taken: 0 }
+chunked::ChunkedWriter { writer: buffer_redux::BufWriter { writer: Told { stream: [] }, buf_len: 0, \
+capacity: 45, policy: StdPolicy } }
+";
 
 #[test]
-fn of_wrong_bodies(rt: HostRuntime) -> Result<(), Fail> {
-    for &(why, text) in &WRONG {
-        let came = display(rt.alloc(), &ChunkedError::Wrong(why, 7))?;
-        assert!(rt; came.as_str() == text, "{came}");
-    }
-    Ok(())
-}
-
-#[test]
-fn of_cut_bodies(rt: HostRuntime) -> Result<(), Fail> {
-    let errors = [ChunkedError::Truncated(7), ChunkedError::from(fault())];
-    let came = lines(rt.alloc(), &errors)?;
-    assert!(rt;
-        came.as_str() == "the stream ended after 7 bytes of a body\ntimed out\n",
-        "{came}"
-    );
-    Ok(())
-}
-
-#[test]
-fn of_trailers(rt: HostRuntime) -> Result<(), Fail> {
-    let errors = [
-        FinishError(7, TrailersError::NoField(7)),
-        FinishError(7, TrailersError::Framing(7)),
-        FinishError(7, TrailersError::TooLong),
-        FinishError(7, TrailersError::Due(7)),
-        FinishError(7, TrailersError::Io(fault())),
-    ];
-    let came = lines(rt.alloc(), &errors)?;
-    let text = "line 7 of the trailers isn't a name, a colon and a value\n\
-line 7 of the trailers says where the body ends\n\
-the trailers don't fit into the buffer\na chunk lacks 7 bytes\ntimed out\n";
-    assert!(rt; came.as_str() == text, "{came}");
-    Ok(())
-}
-
-// The kind that it has as an I/O error: the stream's own, or that of what was given.
-fn kind_of<E: Into<io::Error>>(error: E) -> ErrorKind {
-    error.into().kind()
-}
-
-#[test]
-fn as_io_errors(rt: HostRuntime) {
-    assert!(rt; kind_of(LineError::TooLong(4)) == ErrorKind::InvalidData);
-    assert!(rt; kind_of(LineError::from(fault())) == ErrorKind::TimedOut);
-    assert!(rt; kind_of(ChunkedError::Truncated(7)) == ErrorKind::UnexpectedEof);
-    assert!(rt; kind_of(ChunkedError::Wrong(BadSize, 7)) == ErrorKind::InvalidData);
-    let refused = |why| kind_of(FinishError(7, why));
-    assert!(rt; refused(TrailersError::NoField(7)) == ErrorKind::InvalidInput);
-    assert!(rt; refused(TrailersError::Framing(7)) == ErrorKind::InvalidInput);
-    assert!(rt; refused(TrailersError::TooLong) == ErrorKind::InvalidInput);
-    assert!(rt; refused(TrailersError::Due(7)) == ErrorKind::InvalidInput);
-    assert!(rt; refused(TrailersError::Io(fault())) == ErrorKind::TimedOut);
-}
-
-type Reader = ChunkedReader<Told<&'static [u8]>>;
-
-// A reader of a body that was not begun.
-fn body(alloc: Global) -> io::Result<Reader> {
-    bodies::over(reader(alloc, 8, b"", Told::new(b"".as_slice()))?, 9, 9)
-}
-
-#[test]
-fn of_bodies(rt: HostRuntime) -> Result<(), Fail> {
-    let text = shown(rt.alloc(), body(rt.alloc())?)?;
-    assert!(rt;
-        text.as_str()
-            == "body_reader::BodyReader { reader: buffer_redux::BufReader { reader: Told { stream: [] }, buf_len: 0, \
-capacity: 8, policy: StdPolicy }, place: Line, taken: 0 }"
-    );
-    let inner = writer(rt.alloc(), 45, b"", Told::new(Vec::new(rt.alloc())))?;
-    let text = shown(rt.alloc(), chunks::over(inner)?)?;
-    assert!(rt;
-        text.as_str()
-            == "chunked::ChunkedWriter { writer: buffer_redux::BufWriter { writer: Told { stream: [] }, buf_len: 0, \
-capacity: 45, policy: StdPolicy } }"
-    );
+fn of_readers_and_writers(rt: HostRuntime) -> Result<(), Fail> {
+    let mut log = Log::new(rt.alloc());
+    bodies(rt.alloc(), &mut log)?;
+    assert!(rt; log.is(SHOWN));
     Ok(())
 }

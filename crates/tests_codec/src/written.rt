@@ -1,17 +1,172 @@
-//! Pieces that are written to a stream that takes little, and that fails at each call in turn.
-use buffer_redux::MakeError;
+//! Writers of pieces and of frames over a stream that takes little, and that fails at each call in turn.
+use crate::asks::{Asks, Log, walk_through};
+use crate::readers::Kind::{Bulk, Frames, LengthsOf, Lines, Net};
+use crate::readers::{Kind, lines_of};
 use buffer_redux::tell::TellWrite;
+use buffer_redux::{Buffer, IntoInnerError, MakeError};
+use codec::laws::written_over;
 use codec::{ByHeader, ByTextHeader, Delimited, Encoder, PieceWriter, WritePieceError};
 use decoders::{BulkStrings, Lengths, Netstrings, Order, Width};
-use redux_script::Answer;
+use frame_reader::{FrameWriter, WriteFrameError};
+use redux_script::{Answer, ScriptWriter};
 use std::alloc::Global;
+use std::fmt::Debug;
 use std::io;
+use std::io::ErrorKind;
 use std::test::Fail;
 use tests_common::sweep::{Came, FAULT, Run, sweep};
-use tests_common::{Target, target};
+use tests_common::{Target, holding, target};
 
-// Neither this maker nor any call below promises anything. Three pieces have room.
-fn writer<W: TellWrite + Drop, E: Encoder>(
+// None of the calls below promises anything.
+fn write<W: TellWrite, E: Encoder>(
+    writer: &mut PieceWriter<W, E>,
+    payload: &[u8],
+    log: &mut Log,
+) -> bool
+where
+    E::Refusal: Debug,
+{
+    match writer.write_piece(payload) {
+        Ok(()) => {}
+        Err(WritePieceError::Refused(why)) => log.show_debug(&why),
+        Err(WritePieceError::Io(_)) => return true,
+    }
+    false
+}
+
+fn write_buffered<W: TellWrite, E: Encoder>(
+    writer: &mut PieceWriter<W, E>,
+    payload: &[u8],
+    log: &mut Log,
+)
+where
+    E::Refusal: Debug,
+{
+    match writer.write_buffered(payload) {
+        Ok(taken) => log.show(&taken),
+        Err(why) => log.show_debug(&why),
+    }
+}
+
+/// Writes a frame.
+pub fn write_frame<W: TellWrite>(
+    frames: &mut FrameWriter<W>,
+    payload: &[u8],
+    log: &mut Log,
+) -> bool {
+    match frames.write_frame(payload) {
+        Ok(()) => {}
+        Err(WriteFrameError::Io(_)) => return true,
+        Err(why) => log.show_debug(&why),
+    }
+    false
+}
+
+// What the stream took, and how often it was flushed.
+fn note_taken(target: &ScriptWriter, log: &mut Log) {
+    log.note(target.taken());
+    log.note(b" ");
+    log.show(&target.flushes());
+}
+
+fn past<W: TellWrite>(stream: &mut W, bytes: &[u8]) -> bool {
+    stream.write_told(bytes).is_err()
+}
+
+// By letters: a `w`rite, the same where nobody is asked, `b`uffered, a `s`end, a `f`lush, a write `p`ast the writer, and what was
+// `t`aken.
+impl<E: Encoder> Asks for PieceWriter<Target, E>
+where
+    E::Refusal: Debug,
+{
+    fn ask(&mut self, call: &[u8], log: &mut Log) -> bool {
+        match call {
+            [b'w', payload @ ..] => return write(self, payload, log),
+            [b'b', payload @ ..] => write_buffered(self, payload, log),
+            [b's'] => return self.send().is_err(),
+            [b'f'] => return self.flush().is_err(),
+            [b'p', bytes @ ..] => return past(self.get_mut(), bytes),
+            _ => note_taken(self.get_ref().get_ref(), log),
+        }
+        false
+    }
+
+    fn asked(&self) -> usize {
+        self.get_ref().get_ref().offers().len()
+    }
+}
+
+impl Asks for FrameWriter<Target> {
+    fn ask(&mut self, call: &[u8], log: &mut Log) -> bool {
+        match call {
+            [b'w', payload @ ..] => return write_frame(self, payload, log),
+            [b's'] => return self.send().is_err(),
+            [b'f'] => return self.flush().is_err(),
+            _ => note_taken(self.get_ref().get_ref(), log),
+        }
+        false
+    }
+
+    fn asked(&self) -> usize {
+        self.get_ref().get_ref().offers().len()
+    }
+}
+
+// What is called, and what comes of it.
+type Row<'a> = (Kind, &'a [&'a [u8]], &'a [u8]);
+
+static ROWS: [Row<'static>; 6] = [
+    (
+        Lines(3),
+        &[
+            b"wab", b"wa\nb", b"w", b"wabc", b"wabcd", b"w\xff\0", b"wxyz", b"w\r", b"f", b"t",
+        ],
+        b"w |w HasEnd|w |w |w TooLong(4)|w |w |w |f |\
+t ab\n\nabc\n\xff\0\nxyz\n\r\n 1|",
+    ),
+    (
+        LengthsOf(Width::Two, Order::BigEndian),
+        &[b"whi", b"wabcd", b"w", b"wabc", b"f", b"t"],
+        b"w |w TooLong(4)|w |w |f |t \0\x02hi\0\0\0\x03abc 1|",
+    ),
+    (
+        LengthsOf(Width::Four, Order::LittleEndian),
+        &[b"whi", b"w", b"wabc", b"f", b"t"],
+        b"w |w |w |f |t \x02\0\0\0hi\0\0\0\0\x03\0\0\0abc 1|",
+    ),
+    // The second is the example of the paper that has netstrings from.
+    (
+        Net,
+        &[
+            b"wabc",
+            b"whello world!",
+            b"w",
+            b"whello, world!",
+            b"f",
+            b"t",
+        ],
+        b"w |w |w |w TooLong(13)|f |t 3:abc,12:hello world!,0:, 1|",
+    ),
+    (
+        Bulk,
+        &[b"whello", b"w", b"w\r\n", b"whello!", b"f", b"t"],
+        b"w |w |w |w TooLong(6)|f |t $5\r\nhello\r\n$0\r\n\r\n$2\r\n\r\n\r\n 1|",
+    ),
+    (
+        Frames(3),
+        &[
+            b"wabc", b"w", b"wabcd", b"wd", b"we", b"wf", b"wg", b"f", b"t",
+        ],
+        b"w |w |w TooLong(4)|w |w |w |w |f |\
+t \x00\x03abc\x00\x00\x00\x01d\x00\x01e\x00\x01f\x00\x01g 1|",
+    ),
+];
+
+// What is walked through, by which script, and whether what failed is made again.
+#[derive(Clone, Copy)]
+struct Walk<'a>(&'a Row<'a>, &'a [Answer], bool);
+
+fn piece_writer<W: TellWrite + Drop, E: Encoder>(
     alloc: Global,
     inner: W,
     encoder: E,
@@ -19,157 +174,185 @@ fn writer<W: TellWrite + Drop, E: Encoder>(
     PieceWriter::with_capacity(alloc, 0, inner, encoder)
 }
 
-fn write<W: TellWrite, E: Encoder>(
-    writer: &mut PieceWriter<W, E>,
-    payload: &[u8],
-) -> Result<(), WritePieceError<E::Refusal>> {
-    writer.write_piece(payload)
-}
-
-fn flush<W: TellWrite, E: Encoder>(writer: &mut PieceWriter<W, E>) -> io::Result<()> {
-    writer.flush()
-}
-
-fn taken<E: Encoder>(writer: &PieceWriter<Target, E>) -> &[u8] {
-    writer.get_ref().get_ref().taken()
-}
-
-fn offered<E: Encoder>(writer: &PieceWriter<Target, E>) -> usize {
-    writer.get_ref().get_ref().offers().len()
-}
-
-// What came of payloads: how many were refused, and how often the stream failed.
-#[derive(Clone, Copy, PartialEq, Eq)]
-struct Outcome {
-    refused: usize,
-    failed: usize,
-}
-
-// Writes one, again where the stream failed.
-fn write_again<W: TellWrite, E: Encoder>(
-    writer: &mut PieceWriter<W, E>,
-    payload: &[u8],
-    so_far: Outcome,
-) -> Outcome {
-    let Outcome { refused, failed } = so_far;
-    match write(writer, payload) {
-        Ok(()) => so_far,
-        Err(WritePieceError::Refused(_)) => Outcome {
-            refused: refused.saturating_add(1),
-            failed,
-        },
-        Err(WritePieceError::Io(_)) => {
-            let _ = write(writer, payload);
-            Outcome {
-                refused,
-                failed: failed.saturating_add(1),
-            }
-        }
-    }
-}
-
-// Writes each of these and flushes.
-fn write_each<W: TellWrite, E: Encoder>(
-    writer: &mut PieceWriter<W, E>,
-    payloads: &[&[u8]],
-) -> Outcome {
-    let mut outcome = Outcome {
-        refused: 0,
-        failed: 0,
-    };
-    for payload in payloads {
-        outcome = write_again(writer, payload, outcome);
-    }
-    if flush(writer).is_err() {
-        outcome.failed = outcome.failed.saturating_add(1);
-        let _ = flush(writer);
-    }
-    outcome
-}
-
-// What is written, how many of the payloads are refused, and what the others are.
-type Row<'a> = (&'a [&'a [u8]], usize, &'a [u8]);
-
-static LINES: Row<'static> = (
-    &[
-        b"ab", b"a\nb", b"", b"abc", b"abcd", b"\xff\0", b"xyz", b"\r",
-    ],
-    2,
-    b"ab\n\nabc\n\xff\0\nxyz\n\r\n",
-);
-
-static BIG: Row<'static> = (&[b"hi", b"abcd", b"", b"abc"], 1, b"\0\x02hi\0\0\0\x03abc");
-
-static LITTLE: Row<'static> = (
-    &[b"hi", b"abcd", b"", b"abc"],
-    1,
-    b"\x02\0\0\0hi\0\0\0\0\x03\0\0\0abc",
-);
-
-// The second is the example of the paper that has netstrings from.
-static NETSTRINGS: Row<'static> = (
-    &[b"abc", b"hello world!", b"", b"hello, world!"],
-    1,
-    b"3:abc,12:hello world!,0:,",
-);
-
-static STRINGS: Row<'static> = (
-    &[b"hello", b"", b"\r\n", b"hello!"],
-    1,
-    b"$5\r\nhello\r\n$0\r\n\r\n$2\r\n\r\n\r\n",
-);
-
-// A row by this encoder.
-#[derive(Drop)]
-struct Encoded<'a, E>(&'a E, &'a Row<'a>);
-
-impl<E: Encoder + Copy> Run for Encoded<'_, E> {
-    fn run(&self, alloc: Global, script: &[Answer]) -> io::Result<Option<Came>> {
-        let &Encoded(encoder, &(payloads, refused, bytes)) = self;
-        let mut writer = writer(alloc, target(alloc, script)?, *encoder)?;
-        let outcome = write_each(&mut writer, payloads);
-        let calls = offered(&writer);
-        let whole = taken(&writer) == bytes && outcome.refused == refused;
-        Ok(whole.then_some(Came {
-            failed: outcome.failed,
-            calls,
-        }))
-    }
-}
-
-fn swept<E: Encoder + Copy>(
+/// A writer of frames over the least buffer.
+pub fn frame_writer<W: TellWrite + Drop>(
     alloc: Global,
-    encoder: E,
-    row: &Row<'_>,
-) -> io::Result<Result<usize, (usize, usize)>> {
-    sweep(alloc, &[Encoded(&encoder, row)], &[7, 3, 2, 1], FAULT)
+    inner: W,
+    max: u16,
+) -> Result<FrameWriter<W>, MakeError<W>> {
+    FrameWriter::with_capacity(alloc, 0, inner, max)
 }
 
-fn lengths(width: Width, order: Order) -> ByHeader<Lengths> {
-    ByHeader(Lengths {
-        width,
-        order,
-        max: 3,
-    })
+fn pieces<E: Encoder>(alloc: Global, encoder: E, walked: Walk<'_>) -> io::Result<Option<Came>>
+where
+    E::Refusal: Debug,
+{
+    let Walk(&(_, calls, wants), script, again) = walked;
+    let writer = piece_writer(alloc, target(alloc, script)?, encoder)?;
+    Ok(walk_through(alloc, writer, calls, wants, again))
+}
+
+fn frames(alloc: Global, max: u16, walked: Walk<'_>) -> io::Result<Option<Came>> {
+    let Walk(&(_, calls, wants), script, again) = walked;
+    let writer = frame_writer(alloc, target(alloc, script)?, max)?;
+    Ok(walk_through(alloc, writer, calls, wants, again))
+}
+
+fn walks(alloc: Global, row: Walk<'_>) -> io::Result<Option<Came>> {
+    match row.0.0 {
+        Lines(max) => pieces(alloc, lines_of(max), row),
+        LengthsOf(width, order) => pieces(
+            alloc,
+            ByHeader(Lengths {
+                width,
+                order,
+                max: 3,
+            }),
+            row,
+        ),
+        Net => pieces(alloc, ByHeader(ByTextHeader(Netstrings { max: 12 })), row),
+        Bulk => pieces(alloc, ByHeader(ByTextHeader(BulkStrings { max: 5 })), row),
+        Frames(max) => frames(alloc, max, row),
+        _ => Ok(None),
+    }
+}
+
+impl Run for Walk<'_> {
+    fn run(&self, alloc: Global, script: &[Answer]) -> io::Result<Option<Came>> {
+        walks(alloc, Walk(self.0, script, true))
+    }
 }
 
 #[test]
 fn pieces_come_out_whole(rt: HostRuntime) -> Result<(), Fail> {
+    for (at, row) in ROWS.iter().enumerate() {
+        let met = sweep(rt.alloc(), &[Walk(row, &[], true)], &[7, 1], FAULT)?;
+        assert!(rt; met.is_ok(), "row {at}");
+    }
+    Ok(())
+}
+
+const FULL: Answer = Answer::Fail(ErrorKind::StorageFull);
+
+// What the stream answers, and what comes of it.
+static SCRIPTED: [(&[Answer], Row<'static>); 3] = [
+    (
+        &[],
+        (
+            Lines(3),
+            &[
+                b"bab", b"babc", b"bcde", b"b", b"b", b"ba\nb", b"babcd", b"p!", b"t", b"s", b"t",
+                b"b",
+            ],
+            b"b true|b true|b true|b true|b false|b HasEnd|\
+b TooLong(4)|p |t ! 0|s |t !ab\nabc\ncde\n\n 0|b true|",
+        ),
+    ),
+    (
+        &[FULL],
+        (
+            Lines(3),
+            &[b"ba", b"s", b"t", b"s", b"t"],
+            b"b true|s failed|t  0|s |t a\n 0|",
+        ),
+    ),
+    (
+        &[FULL],
+        (
+            Frames(3),
+            &[b"wa", b"s", b"t", b"s", b"t"],
+            b"w |s failed|t  0|s |t \x00\x01a 0|",
+        ),
+    ),
+];
+
+#[test]
+fn sends(rt: HostRuntime) -> Result<(), Fail> {
+    for (at, &(script, row)) in SCRIPTED.iter().enumerate() {
+        assert!(rt;
+            walks(rt.alloc(), Walk(&row, script, false))?.is_some(),
+            "row {at}"
+        );
+    }
+    Ok(())
+}
+
+type LineWriter = PieceWriter<Target, Delimited>;
+
+// Over a buffer in which another writer left a byte.
+fn lines_behind(alloc: Global, script: &[Answer]) -> io::Result<LineWriter> {
+    let buffer = holding(alloc, 12, b"x")?;
+    Ok(PieceWriter::with_buffer(alloc, buffer, target(alloc, script)?, lines_of(3))?)
+}
+
+fn frames_behind(alloc: Global, script: &[Answer]) -> io::Result<FrameWriter<Target>> {
+    let buffer = holding(alloc, 9, b"x")?;
+    Ok(FrameWriter::with_buffer(alloc, buffer, target(alloc, script)?, 3)?)
+}
+
+// The stream, to which all was sent, or what is left in the buffer.
+fn lines_apart(lines: LineWriter) -> Result<Target, Buffer> {
+    match lines.into_inner() {
+        Ok(inner) => Ok(inner),
+        Err(IntoInnerError(lines, _)) => Err(lines.into_inner_with_buffer().1),
+    }
+}
+
+fn frames_apart(frames: FrameWriter<Target>) -> Result<Target, Buffer> {
+    match frames.into_inner() {
+        Ok(inner) => Ok(inner),
+        Err(IntoInnerError(frames, _)) => Err(frames.into_inner_with_buffer().1),
+    }
+}
+
+// Whether the stream took that byte and was flushed once, or the byte is left.
+fn is_apart(parts: Result<Target, Buffer>, sent: bool) -> bool {
+    match parts {
+        Ok(inner) => {
+            let target = inner.into_inner();
+            sent && target.taken() == b"x".as_slice() && target.flushes() == 1
+        }
+        Err(buffer) => !sent && buffer.buf() == b"x".as_slice(),
+    }
+}
+
+#[test]
+fn comes_apart(rt: HostRuntime) -> Result<(), Fail> {
     let alloc = rt.alloc();
-    let lines = swept(alloc, Delimited { end: b'\n', max: 3 }, &LINES)?;
-    let big = swept(alloc, lengths(Width::Two, Order::BigEndian), &BIG)?;
-    let little = swept(alloc, lengths(Width::Four, Order::LittleEndian), &LITTLE)?;
-    let netstrings = swept(
-        alloc,
-        ByHeader(ByTextHeader(Netstrings { max: 12 })),
-        &NETSTRINGS,
-    )?;
-    let strings = swept(
-        alloc,
-        ByHeader(ByTextHeader(BulkStrings { max: 5 })),
-        &STRINGS,
-    )?;
-    let met = (lines, big, little, netstrings, strings);
-    assert!(rt; met == (Ok(35), Ok(23), Ok(35), Ok(51), Ok(51)), "{met:?}");
+    let scripts: [(&[Answer], bool); 2] = [(&[], true), (&[FULL], false)];
+    for (script, sent) in scripts {
+        assert!(rt; is_apart(lines_apart(lines_behind(alloc, script)?), sent));
+        assert!(rt; is_apart(frames_apart(frames_behind(alloc, script)?), sent));
+    }
+    Ok(())
+}
+
+// No buffer holds three lines of so many bytes.
+const HUGE: usize = 0x4000_0000_0000_0000;
+
+fn over_again(
+    alloc: Global,
+    lines: LineWriter,
+    max: usize,
+) -> Result<LineWriter, MakeError<(Buffer, Target, Delimited)>> {
+    written_over(alloc, lines, lines_of(max))
+}
+
+// What is left in the buffer of a writer that is made again of its parts, for longer lines, and takes one, or that is refused.
+fn goes_on(alloc: Global, lines: LineWriter, max: usize) -> Buffer {
+    match over_again(alloc, lines, max) {
+        Ok(mut lines) => {
+            let _ = lines.write_buffered(b"abcd");
+            lines.into_inner_with_buffer().1
+        }
+        Err(MakeError((buffer, _, _), _)) => buffer,
+    }
+}
+
+#[test]
+fn goes_on_with_longer_lines(rt: HostRuntime) -> Result<(), Fail> {
+    let alloc = rt.alloc();
+    assert!(rt; goes_on(alloc, lines_behind(alloc, &[])?, 4).buf() == b"xabcd\n".as_slice());
+    assert!(rt; goes_on(alloc, lines_behind(alloc, &[])?, HUGE).buf() == b"x".as_slice());
     Ok(())
 }
