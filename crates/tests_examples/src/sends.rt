@@ -20,228 +20,142 @@ use line_reader::{LineError, LineReader};
 use resp::{Client, Command, Ending, Full, Refusal, Store};
 use std::fs::File;
 
-fn is_send<T: Send>(_value: &T) {}
+fn is_send<T: Send>(_values: &T) {}
 
-fn is_sync<T: Sync>(_value: &T) {}
+fn is_sync<T: Sync>(_values: &T) {}
 
-fn is_both<T: Send + Sync>(_value: &T) {}
+fn is_both<T: Send + Sync>(_values: &T) {}
 
-pub fn blocks(a: &RawBuf, b: &StdBuf, c: &SliceDequeBuf, d: &BufImpl, e: &Buffer) {
+type Blocks = (
+    RawBuf,
+    StdBuf,
+    SliceDequeBuf,
+    BufImpl,
+    Buffer,
+    Count,
+    CallLog,
+);
+
+type Policies = (
+    StdPolicy,
+    MinBuffered,
+    FlushAtLeast,
+    FlushExact,
+    FlushOn,
+    FlushOnNewline,
+);
+
+type Errors = (
+    GrowError,
+    FrameError,
+    WriteFrameError,
+    LineError,
+    ChunkedError,
+    TrailersError,
+);
+
+type Files = (BufReader<Told<File>>, LineWriter<Told<File>>);
+
+type Ready = (
+    Delimited,
+    Lengths,
+    Netstrings,
+    BulkStrings,
+    HeaderBytes,
+    Span,
+);
+
+type WrongPieces = (TooLong, HeaderError, NotPlain);
+
+type Entries<'a> = (Store, Command<'a>, Full, Refusal, Ending);
+
+pub fn of_the_port(a: &Blocks, b: &Policies, c: &Errors, d: &Files) {
     is_both(a);
     is_both(b);
     is_both(c);
     is_both(d);
-    is_both(e);
 }
 
-pub fn ghosts(a: &Count, b: &CallLog) {
-    is_both(a);
-    is_both(b);
-}
-
-pub fn policies(
-    a: &StdPolicy,
-    b: &MinBuffered,
-    c: &FlushAtLeast,
-    d: &FlushExact,
-    e: &FlushOn,
-    f: &FlushOnNewline,
-) {
+pub fn of_pieces(a: &Ready, b: &WrongPieces, c: &Entries<'_>) {
     is_both(a);
     is_both(b);
     is_both(c);
-    is_both(d);
-    is_both(e);
-    is_both(f);
 }
 
-pub fn errors(
-    a: &GrowError,
-    b: &FrameError,
-    c: &WriteFrameError,
-    d: &LineError,
-    e: &ChunkedError,
-    f: &TrailersError,
-) {
-    is_both(a);
-    is_both(b);
-    is_both(c);
-    is_both(d);
-    is_both(e);
-    is_both(f);
+type Readers<R, P> = (
+    BufReader<R, P>,
+    ChunkedReader<R, P>,
+    Unbuffer<R>,
+    FrameReader<R>,
+    LineReader<R>,
+    Client<R>,
+);
+
+pub fn readers_sent<R: Tell + Send, P: Send>(all: &Readers<R, P>) {
+    is_send(all);
 }
 
-pub fn files(reader: &BufReader<Told<File>>, log: &LineWriter<Told<File>>) {
-    is_both(reader);
-    is_both(log);
+pub fn readers_shared<R: Tell + Sync, P: Sync>(all: &Readers<R, P>) {
+    is_sync(all);
 }
 
-pub fn readers_sent<R: Tell + Send, P: Send>(
-    a: &BufReader<R, P>,
-    b: &ChunkedReader<R, P>,
-    c: &Unbuffer<R>,
-    d: &FrameReader<R>,
-    e: &LineReader<R>,
-) {
-    is_send(a);
-    is_send(b);
-    is_send(c);
-    is_send(d);
-    is_send(e);
+type Writers<W, P> = (
+    BufWriter<W, P>,
+    ChunkedWriter<W>,
+    LineWriter<W>,
+    FrameWriter<W>,
+);
+
+pub fn writers_sent<W: TellWrite + Send, P: Send>(all: &Writers<W, P>) {
+    is_send(all);
 }
 
-pub fn readers_shared<R: Tell + Sync, P: Sync>(
-    a: &BufReader<R, P>,
-    b: &ChunkedReader<R, P>,
-    c: &Unbuffer<R>,
-    d: &FrameReader<R>,
-    e: &LineReader<R>,
-) {
-    is_sync(a);
-    is_sync(b);
-    is_sync(c);
-    is_sync(d);
-    is_sync(e);
+pub fn writers_shared<W: TellWrite + Sync, P: Sync>(all: &Writers<W, P>) {
+    is_sync(all);
 }
 
-pub fn writers_sent<W: TellWrite + Send, P: Send>(
-    a: &BufWriter<W, P>,
-    b: &ChunkedWriter<W>,
-    c: &LineWriter<W>,
-    d: &FrameWriter<W>,
-) {
-    is_send(a);
-    is_send(b);
-    is_send(c);
-    is_send(d);
+type Wrappers<T> = (Told<T>, MakeError<T>, IntoInnerError<T>, FinishError<T>);
+
+type Answers<W> = (Found<W>, End<W>, NextError<W>, WritePieceError<W>);
+
+pub fn wrappers_sent<T: Send>(all: &Wrappers<T>, answers: &Answers<T>) {
+    is_send(all);
+    is_send(answers);
 }
 
-pub fn writers_shared<W: TellWrite + Sync, P: Sync>(
-    a: &BufWriter<W, P>,
-    b: &ChunkedWriter<W>,
-    c: &LineWriter<W>,
-    d: &FrameWriter<W>,
-) {
-    is_sync(a);
-    is_sync(b);
-    is_sync(c);
-    is_sync(d);
+pub fn wrappers_shared<T: Sync>(all: &Wrappers<T>, answers: &Answers<T>) {
+    is_sync(all);
+    is_sync(answers);
 }
 
-pub fn wrappers_sent<T: Send>(
-    a: &Told<T>,
-    b: &MakeError<T>,
-    c: &IntoInnerError<T>,
-    d: &FinishError<T>,
-) {
-    is_send(a);
-    is_send(b);
-    is_send(c);
-    is_send(d);
-}
-
-pub fn wrappers_shared<T: Sync>(
-    a: &Told<T>,
-    b: &MakeError<T>,
-    c: &IntoInnerError<T>,
-    d: &FinishError<T>,
-) {
-    is_sync(a);
-    is_sync(b);
-    is_sync(c);
-    is_sync(d);
-}
-
-pub fn piece_reader_sent<R: Tell + Send, D: Decoder + Send>(x: &PieceReader<R, D>)
+pub fn pieces_sent<R: TellWrite + Send, D: Decoder + Encoder + Send>(
+    all: &(PieceReader<R, D>, PieceWriter<R, D>),
+)
 where
     D::Note: Send,
 {
-    is_send(x);
+    is_send(all);
 }
 
-pub fn piece_reader_shared<R: Tell + Sync, D: Decoder + Sync>(x: &PieceReader<R, D>)
+pub fn pieces_shared<R: TellWrite + Sync, D: Decoder + Encoder + Sync>(
+    all: &(PieceReader<R, D>, PieceWriter<R, D>),
+)
 where
     D::Note: Sync,
 {
-    is_sync(x);
+    is_sync(all);
 }
 
-pub fn piece_writer_sent<W: TellWrite + Send, E: Encoder + Send>(x: &PieceWriter<W, E>) {
-    is_send(x);
-}
-
-pub fn piece_writer_shared<W: TellWrite + Sync, E: Encoder + Sync>(x: &PieceWriter<W, E>) {
-    is_sync(x);
-}
+type Decoders<H, S, T> = (ByHeader<H>, ByScan<S>, ByTextHeader<T>);
 
 pub fn decoders_sent<H: LengthPrefixed + Send, S: Scan + Send, T: TextHeader + Send>(
-    a: &ByHeader<H>,
-    b: &ByScan<S>,
-    c: &ByTextHeader<T>,
+    all: &Decoders<H, S, T>,
 ) {
-    is_send(a);
-    is_send(b);
-    is_send(c);
+    is_send(all);
 }
 
 pub fn decoders_shared<H: LengthPrefixed + Sync, S: Scan + Sync, T: TextHeader + Sync>(
-    a: &ByHeader<H>,
-    b: &ByScan<S>,
-    c: &ByTextHeader<T>,
+    all: &Decoders<H, S, T>,
 ) {
-    is_sync(a);
-    is_sync(b);
-    is_sync(c);
-}
-
-pub fn ready(
-    a: &Delimited,
-    b: &Lengths,
-    c: &Netstrings,
-    d: &BulkStrings,
-    e: &HeaderBytes,
-    f: &Span,
-) {
-    is_both(a);
-    is_both(b);
-    is_both(c);
-    is_both(d);
-    is_both(e);
-    is_both(f);
-}
-
-pub fn wrong_pieces(a: &TooLong, b: &HeaderError, c: &NotPlain) {
-    is_both(a);
-    is_both(b);
-    is_both(c);
-}
-
-pub fn answers_sent<W: Send>(a: &Found<W>, b: &End<W>, c: &NextError<W>, d: &WritePieceError<W>) {
-    is_send(a);
-    is_send(b);
-    is_send(c);
-    is_send(d);
-}
-
-pub fn answers_shared<W: Sync>(a: &Found<W>, b: &End<W>, c: &NextError<W>, d: &WritePieceError<W>) {
-    is_sync(a);
-    is_sync(b);
-    is_sync(c);
-    is_sync(d);
-}
-
-pub fn entries(a: &Store, b: &Command<'_>, c: &Full, d: &Refusal, e: &Ending) {
-    is_both(a);
-    is_both(b);
-    is_both(c);
-    is_both(d);
-    is_both(e);
-}
-
-pub fn client_sent<R: Tell + Send>(x: &Client<R>) {
-    is_send(x);
-}
-
-pub fn client_shared<R: Tell + Sync>(x: &Client<R>) {
-    is_sync(x);
+    is_sync(all);
 }

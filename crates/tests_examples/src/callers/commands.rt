@@ -1,4 +1,3 @@
-use Said::{Del, Get, Incr, Other, Set, Text};
 use buffer_redux::BufWriter;
 use buffer_redux::tell::Told;
 use decoders::RespItem;
@@ -9,44 +8,62 @@ use resp::{
 use std::alloc::{AllocError, Global};
 use std::test::Fail;
 
-// What a client that sends these requests, at once, is answered, and how serving it ended.
-fn answered(alloc: Global, store: &mut Store, text: &[u8]) -> Result<(Vec<u8>, Ending), Fail> {
+// What a client that sends these requests, at once, is answered by so many calls, and how the last one ended.
+fn answered(
+    alloc: Global,
+    store: &mut Store,
+    text: &[u8],
+    calls: usize,
+) -> Result<(Vec<u8>, Ending), Fail> {
     let mut client = Client::new(alloc, Told::new(text))?;
     let mut replies = BufWriter::new(alloc, Told::new(Vec::new(alloc)))?;
-    let ending = match client.serve(store, &mut replies) {
-        Ok(ending) => ending,
-        Err(_) => Ending::Many,
-    };
+    let mut ending = Ending::Many;
+    for _ in 0..calls {
+        ending = match client.serve(store, &mut replies) {
+            Ok(ending) => ending,
+            Err(_) => Ending::Many,
+        };
+    }
     drop(client);
     let received = Vec::from_slice(alloc, replies.get_ref().get_ref().as_slice())?;
     Ok((received, ending))
 }
 
+// Each row is of another client, over what those before left in the store.
+static REQUESTS: [(&'static [u8], usize, &'static [u8], Ending); 5] = [
+    (
+        b"*3\r\n$3\r\nSET\r\n$1\r\na\r\n$3\r\none\r\n*2\r\n$3\r\nget\r\n$1\r\na\r\nQUIT\r\nPING\r\n",
+        1,
+        b"+OK\r\n$3\r\none\r\n+OK\r\n",
+        Ending::Closed,
+    ),
+    (b"*3\r\n$3\r\nSET\r\n$1\r\na\r\n", 1, b"", Ending::Within),
+    (
+        b"*1\r\n$4\r\nPING\r\n*2\r\n$3\r\nget\r\n$1\r\na\r\n",
+        1,
+        b"+PONG\r\n$3\r\none\r\n",
+        Ending::End,
+    ),
+    (
+        b"*3\r\n$3\r\nDEL\r\n$1\r\na\r\n$1\r\nb\r\nQUIT\r\nPING\r\n",
+        1,
+        b":1\r\n+OK\r\n",
+        Ending::Closed,
+    ),
+    // Behind a refusal the next request begins anew.
+    (
+        b"*2\r\n$3\r\nGET\r\n:5\r\n$1\r\na\r\n",
+        2,
+        b"-ERR Protocol error: expected '$'\r\n-ERR Protocol error: expected '*'\r\n",
+        Ending::Closed,
+    ),
+];
+
 #[test]
 fn answers_requests(rt: HostRuntime) -> Result<(), Fail> {
-    let alloc = rt.alloc();
-    let mut store = Store::new(alloc, 1);
-    // Each row is of another client, over what those before left in the store.
-    let rows: [(&[u8], &[u8], Ending); 4] = [
-        (
-            b"*3\r\n$3\r\nSET\r\n$1\r\na\r\n$3\r\none\r\n*2\r\n$3\r\nget\r\n$1\r\na\r\nQUIT\r\nPING\r\n",
-            b"+OK\r\n$3\r\none\r\n+OK\r\n",
-            Ending::Closed,
-        ),
-        (b"*3\r\n$3\r\nSET\r\n$1\r\na\r\n", b"", Ending::Within),
-        (
-            b"*1\r\n$4\r\nPING\r\n*2\r\n$3\r\nget\r\n$1\r\na\r\n",
-            b"+PONG\r\n$3\r\none\r\n",
-            Ending::End,
-        ),
-        (
-            b"*3\r\n$3\r\nDEL\r\n$1\r\na\r\n$1\r\nb\r\nQUIT\r\nPING\r\n",
-            b":1\r\n+OK\r\n",
-            Ending::Closed,
-        ),
-    ];
-    for (text, replies, ending) in rows {
-        let (received, ended) = answered(alloc, &mut store, text)?;
+    let mut store = Store::new(rt.alloc(), 1);
+    for &(text, calls, replies, ending) in &REQUESTS {
+        let (received, ended) = answered(rt.alloc(), &mut store, text, calls)?;
         assert!(rt; received.as_slice() == replies && ended == ending);
     }
     Ok(drop(store))
@@ -66,63 +83,23 @@ fn tells_an_end_within_a_request(rt: HostRuntime) -> Result<(), Fail> {
     Ok(drop(client))
 }
 
-#[test]
-fn begins_anew_behind_a_refusal(rt: HostRuntime) -> Result<(), Fail> {
-    let alloc = rt.alloc();
-    let mut store = Store::new(alloc, 100);
-    let stream = Told::new(b"*2\r\n$3\r\nGET\r\n:5\r\n$1\r\na\r\n".as_slice());
-    let mut client = Client::new(alloc, stream)?;
-    let mut replies = BufWriter::new(alloc, Told::new(Vec::new(alloc)))?;
-    for _turn in 0..2 {
-        assert!(rt; matches!(client.serve(&mut store, &mut replies), Ok(Ending::Closed)));
-    }
-    let wanted = b"-ERR Protocol error: expected '$'\r\n-ERR Protocol error: expected '*'\r\n";
-    assert!(rt; replies.get_ref().get_ref().as_slice() == wanted.as_slice());
-    drop(store);
-    drop(replies);
-    Ok(drop(client))
-}
-
-// What a command is, by its arguments.
-#[derive(Clone, Copy)]
-enum Said<'a> {
-    Text(&'a [u8]),
-    Get(&'a [u8]),
-    Set(&'a [u8], &'a [u8]),
-    // So many keys.
-    Del(usize),
-    Incr(&'a [u8]),
-    Other(Kind),
-}
-
-// A command without arguments, or with wrong ones, or none at all.
-#[derive(Clone, Copy)]
-enum Kind {
-    Ping,
-    DbSize,
-    Quit,
-    Nothing,
-    Arguments,
-    Unknown,
-}
-
-// Parts of requests, and the commands that they are in the protocol of Redis.
-static COMMANDS: [(&[&[u8]], Said<'static>); 15] = [
-    (&[b"PING"], Other(Kind::Ping)),
-    (&[b"ping", b"a b"], Text(b"a b")),
-    (&[b"Echo", b""], Text(b"")),
-    (&[b"echo"], Other(Kind::Arguments)),
-    (&[b"get", b"a"], Get(b"a")),
-    (&[b"get", b"a", b"b"], Other(Kind::Arguments)),
-    (&[b"SET", b"a", b"b"], Set(b"a", b"b")),
-    (&[b"del", b"a", b"b"], Del(2)),
-    (&[b"del"], Other(Kind::Arguments)),
-    (&[b"INCR", b"n"], Incr(b"n")),
-    (&[b"dbsize"], Other(Kind::DbSize)),
-    (&[b"quit"], Other(Kind::Quit)),
-    (&[b"COMMAND", b"DOCS"], Other(Kind::Nothing)),
-    (&[b"gets", b"a"], Other(Kind::Unknown)),
-    (&[], Other(Kind::Unknown)),
+// Parts of requests, and the commands that they are in the protocol of Redis, with what is in them.
+static COMMANDS: [(&[&[u8]], &'static [u8]); 15] = [
+    (&[b"PING"], b"ping"),
+    (&[b"ping", b"a b"], b"echo a b"),
+    (&[b"Echo", b""], b"echo "),
+    (&[b"echo"], b"arguments"),
+    (&[b"get", b"a"], b"get a"),
+    (&[b"get", b"a", b"b"], b"arguments"),
+    (&[b"SET", b"a", b"b"], b"set a b"),
+    (&[b"del", b"a", b"b"], b"del a b"),
+    (&[b"del"], b"arguments"),
+    (&[b"INCR", b"n"], b"incr n"),
+    (&[b"dbsize"], b"dbsize"),
+    (&[b"quit"], b"quit"),
+    (&[b"COMMAND", b"DOCS"], b"nothing"),
+    (&[b"gets", b"a"], b"unknown"),
+    (&[], b"unknown"),
 ];
 
 fn owned(alloc: Global, parts: &[&[u8]]) -> Result<Vec<Vec<u8>>, AllocError> {
@@ -133,34 +110,40 @@ fn owned(alloc: Global, parts: &[&[u8]]) -> Result<Vec<Vec<u8>>, AllocError> {
     Ok(all)
 }
 
-fn is_kind(command: Command<'_>, kind: Kind) -> bool {
-    match kind {
-        Kind::Ping => matches!(command, Command::Ping),
-        Kind::DbSize => matches!(command, Command::DbSize),
-        Kind::Quit => matches!(command, Command::Quit),
-        Kind::Nothing => matches!(command, Command::Nothing),
-        Kind::Arguments => matches!(command, Command::Arguments),
-        Kind::Unknown => matches!(command, Command::Unknown),
+// A command, and what is in it.
+fn told(alloc: Global, command: Command<'_>) -> Result<Vec<u8>, AllocError> {
+    match command {
+        Command::Ping => Vec::from_slice(alloc, b"ping"),
+        Command::DbSize => Vec::from_slice(alloc, b"dbsize"),
+        Command::Quit => Vec::from_slice(alloc, b"quit"),
+        Command::Nothing => Vec::from_slice(alloc, b"nothing"),
+        Command::Arguments => Vec::from_slice(alloc, b"arguments"),
+        Command::Unknown => Vec::from_slice(alloc, b"unknown"),
+        Command::Echo(text) => joined(alloc, b"echo", &[text]),
+        Command::Get(key) => joined(alloc, b"get", &[key]),
+        Command::Set(key, value) => joined(alloc, b"set", &[key, value]),
+        Command::Incr(key) => joined(alloc, b"incr", &[key]),
+        Command::Del([key, other]) => joined(alloc, b"del", &[key.as_slice(), other.as_slice()]),
+        Command::Del(_) => Vec::from_slice(alloc, b"del"),
     }
 }
 
-fn is_said(command: Command<'_>, said: Said<'_>) -> bool {
-    match (command, said) {
-        (Command::Echo(text), Text(bytes)) => text == bytes,
-        (Command::Get(key), Get(bytes)) => key == bytes,
-        (Command::Set(key, value), Set(bytes, other)) => (key, value) == (bytes, other),
-        (Command::Del(keys), Del(count)) => keys.len() == count,
-        (Command::Incr(key), Incr(bytes)) => key == bytes,
-        (_, Other(kind)) => is_kind(command, kind),
-        _ => false,
+// A name, and each of these behind a blank.
+fn joined(alloc: Global, name: &[u8], parts: &[&[u8]]) -> Result<Vec<u8>, AllocError> {
+    let mut text = Vec::from_slice(alloc, name)?;
+    for part in parts {
+        text.push(b' ')?;
+        text.extend_from_slice(part)?;
     }
+    Ok(text)
 }
 
 #[test]
 fn reads_commands(rt: HostRuntime) -> Result<(), Fail> {
     for (row, &(parts, said)) in COMMANDS.iter().enumerate() {
         let parts = owned(rt.alloc(), parts)?;
-        assert!(rt; is_said(command_of(parts.as_slice()), said), "row {row}");
+        let command = told(rt.alloc(), command_of(parts.as_slice()))?;
+        assert!(rt; command.as_slice() == said, "row {row}");
     }
     Ok(())
 }
