@@ -1,7 +1,7 @@
 //! Calls of readers and writers that grow their buffer: where that is refused, the call fails, and the same call then succeeds.
 use crate::growths::placed;
 use crate::streams::{Sink, Source, empty_sink, reading, taken};
-use crate::trial::{Trial, Wrong, granted, is, print, unchanged};
+use crate::trial::{Trial, print};
 use buffer_redux::policy::{FlushAtLeast, FlushExact, MinBuffered, WriterPolicy};
 use buffer_redux::tell::{TellRead, TellWrite, Told};
 use buffer_redux::{BufReader, BufWriter, Buffer, GrowError, LineWriter};
@@ -112,63 +112,54 @@ fn takes<S: Attempts>(
     (inner, buf): (S, Buffer),
     call: Call,
     (count, capacity): After,
-) -> Result<(S, Buffer), Wrong> {
+) -> (S, Buffer) {
     let (stream, held) = (print(&inner), print(&buf));
     let (mut answer, mut inner, mut buf) = inner.attempts(buf, call);
     if let Err(kind) = answer {
-        trial.failed(kind)?;
-        unchanged(&inner, stream)?;
-        unchanged(&buf, held)?;
+        trial.failed(kind);
+        trial.unchanged(&inner, stream);
+        trial.unchanged(&buf, held);
         (answer, inner, buf) = inner.attempts(buf, call);
     }
-    is(
-        answer.ok() == Some(count) && buf.capacity() == capacity,
-        "the count of a call, or the capacity behind it",
-    )?;
-    Ok((inner, buf))
+    trial.sees(answer.ok() == Some(count), "the count of a call");
+    trial.sees(buf.capacity() == capacity, "the capacity behind a call");
+    (inner, buf)
 }
 
-// The same of several calls, one behind the other.
-fn takes_each<S: Attempts>(
+// The same of several calls over a buffer, one behind the other, where it could be made.
+fn takes_over<S: Attempts>(
     trial: &mut Trial,
-    parts: (S, Buffer),
+    made: Result<Buffer, GrowError>,
+    inner: S,
     rows: &[(Call, After)],
-) -> Result<(S, Buffer), Wrong> {
-    let mut parts = parts;
-    for &(call, after) in rows {
-        parts = takes(trial, parts, call, after)?;
+) -> Option<(S, Buffer)> {
+    match made {
+        Ok(buf) => {
+            let mut parts = (inner, buf);
+            for &(call, after) in rows {
+                parts = takes(trial, parts, call, after);
+            }
+            Some(parts)
+        }
+        Err(e) => {
+            trial.refused(e);
+            None
+        }
     }
-    Ok(parts)
 }
 
 static BYTES: [u8; 20] = [
     0, 1, 2, 3, 4, 5, 6, 7, 8, 9, 10, 11, 12, 13, 14, 15, 16, 17, 18, 19,
 ];
 
-// The same over a buffer, where it could be made.
-fn takes_over<S: Attempts>(
-    trial: &mut Trial,
-    made: Result<Buffer, GrowError>,
-    inner: S,
-    rows: &[(Call, After)],
-) -> Result<Option<(S, Buffer)>, Wrong> {
-    match made {
-        Ok(buf) => Ok(Some(takes_each(trial, (inner, buf), rows)?)),
-        Err(e) => {
-            trial.refused(e)?;
-            Ok(None)
-        }
-    }
-}
-
 // Over bytes that don't stand at the front, by or up to more than either kind has.
-pub fn over_placed(alloc: Global, trial: &mut Trial) -> Result<(), Wrong> {
+pub fn over_placed(alloc: Global, trial: &mut Trial) {
     for &(is_ring, grown, filled) in &[(false, 5005, 8997), (true, 8192, 8192)] {
         for &row in &[
             (Call::Reserve(5000), (0, grown)),
             (Call::Fill(9000), (5, filled)),
         ] {
-            let _ = takes_over(trial, placed(alloc, is_ring), reading(&[4, 5]), &[row])?;
+            let _ = takes_over(trial, placed(alloc, is_ring), reading(&[4, 5]), &[row]);
         }
         for &row in &[
             (Call::Reserve(5000), (0, grown)),
@@ -176,47 +167,37 @@ pub fn over_placed(alloc: Global, trial: &mut Trial) -> Result<(), Wrong> {
             (Call::WriteAtLeast(9000, &[4, 5]), (2, filled)),
             (Call::WriteExact(9000, &[4, 5]), (2, filled)),
         ] {
-            let _ = takes_over(trial, placed(alloc, is_ring), empty_sink(), &[row])?;
+            let _ = takes_over(trial, placed(alloc, is_ring), empty_sink(), &[row]);
         }
     }
-    Ok(())
 }
 
-// What a first fill shows stays where the buffer grows, and another one asks for nothing.
-fn fills_again<S: Attempts>(trial: &mut Trial, parts: (S, Buffer)) -> Result<S, Wrong> {
-    is(parts.1.buf() == &BYTES[..4], "the first fill")?;
-    let rows = [(Call::Reserve(4), (0, 8)), (Call::Fill(4), (4, 8))];
-    Ok(takes_each(trial, parts, &rows)?.0)
-}
-
-// Without a capacity at first. What then comes without memory is a row of `replay`.
-fn reads_from_nothing(alloc: Global, trial: &mut Trial) -> Result<(), Wrong> {
-    let rows = [(Call::Fill(4), (4, 4))];
-    match takes_over(trial, empty(alloc, false, 0), reading(&BYTES), &rows)? {
-        Some(parts) => {
-            let asks = fills_again(trial, parts)?.get_ref().asks;
-            is(asks == 1, "how often it is asked")
-        }
-        None => Ok(()),
+// Without a capacity at first. What a first fill shows stays where the buffer grows, and another one asks for nothing. What then
+// comes without memory is a row of `replay`.
+fn reads_from_nothing(alloc: Global, trial: &mut Trial) {
+    let rows = [
+        (Call::Fill(4), (4, 4)),
+        (Call::Reserve(4), (0, 8)),
+        (Call::Fill(4), (4, 8)),
+    ];
+    if let Some((inner, buf)) = takes_over(trial, empty(alloc, false, 0), reading(&BYTES), &rows) {
+        trial.sees(buf.buf() == &BYTES[..4], "the first fill");
+        trial.sees(inner.get_ref().asks == 1, "how often it is asked");
     }
 }
 
 // What is written is then sent.
-fn writes_from_nothing(
-    alloc: Global,
-    trial: &mut Trial,
-    rows: &[(Call, After)],
-    bytes: &[u8],
-) -> Result<(), Wrong> {
-    match takes_over(trial, empty(alloc, false, 0), empty_sink(), rows)? {
-        Some(parts) => sends(parts, bytes),
-        None => Ok(()),
+fn writes_from_nothing(alloc: Global, trial: &mut Trial, rows: &[(Call, After)], bytes: &[u8]) {
+    if let Some((inner, buf)) = takes_over(trial, empty(alloc, false, 0), empty_sink(), rows) {
+        let mut it = BufWriter::with_buffer(buf, inner);
+        trial.granted(flush(&mut it).is_ok());
+        trial.sees(taken(it.get_ref()) == bytes, "what is sent");
     }
 }
 
-pub fn from_nothing(alloc: Global, trial: &mut Trial) -> Result<(), Wrong> {
-    reads_from_nothing(alloc, trial)?;
-    writes_from_nothing(alloc, trial, &[(Call::WriteAtLeast(4, &[1]), (1, 4))], &[1])?;
+pub fn from_nothing(alloc: Global, trial: &mut Trial) {
+    reads_from_nothing(alloc, trial);
+    writes_from_nothing(alloc, trial, &[(Call::WriteAtLeast(4, &[1]), (1, 4))], &[1]);
     let rows = [
         (Call::WriteExact(4, &[1]), (1, 4)),
         (Call::Reserve(7), (0, 8)),
@@ -224,14 +205,7 @@ pub fn from_nothing(alloc: Global, trial: &mut Trial) -> Result<(), Wrong> {
         (Call::WriteExact(4, &[4, 5, 6]), (3, 8)),
         (Call::WriteExact(4, &[7, 8, 9, 10]), (4, 8)),
     ];
-    writes_from_nothing(alloc, trial, &rows, &[1, 2, 3, 4, 5, 6, 7, 8, 9, 10])
-}
-
-// A flush sends these.
-fn sends((inner, buf): (Sink, Buffer), bytes: &[u8]) -> Result<(), Wrong> {
-    let mut it = BufWriter::with_buffer(buf, inner);
-    granted(flush(&mut it))?;
-    is(taken(it.get_ref()) == bytes, "what is sent")
+    writes_from_nothing(alloc, trial, &rows, &[1, 2, 3, 4, 5, 6, 7, 8, 9, 10]);
 }
 
 // A fill of several turns that is refused in one of them keeps the bytes of those before, 4096 each.
@@ -239,38 +213,29 @@ fn fills_greedily(
     trial: &mut Trial,
     it: &mut BufReader<Told<Source<'_>>, Greedy>,
     capacity: usize,
-) -> Result<(), Wrong> {
+) {
     if let Err(kind) = kind(shown(it)) {
         let asks = it.get_ref().get_ref().asks;
-        is(
-            it.buf_len() == asks.saturating_mul(4096).min(10000),
-            "the bytes of the turns before",
-        )?;
-        trial.failed(kind)?;
-        granted(shown(it))?;
+        let came = asks.saturating_mul(4096).min(10000);
+        trial.sees(it.buf_len() == came, "the bytes of the turns before");
+        trial.failed(kind);
+        trial.granted(shown(it).is_ok());
     }
-    is(
-        (it.buf_len(), it.capacity()) == (10000, capacity),
+    let state = (it.buf_len(), it.capacity());
+    trial.sees(
+        state == (10000, capacity),
         "what is shown, and the capacity of all turns",
-    )
+    );
 }
 
-fn in_turns(
-    trial: &mut Trial,
-    buf: Buffer,
-    inner: Told<Source<'_>>,
-    capacity: usize,
-) -> Result<(), Wrong> {
-    let mut it = reader_under(BufReader::with_buffer(buf, inner), Greedy);
-    fills_greedily(trial, &mut it, capacity)
-}
-
-pub fn each_turn(alloc: Global, trial: &mut Trial) -> Result<(), Wrong> {
+pub fn each_turn(alloc: Global, trial: &mut Trial) {
     for &(is_ring, capacity) in &[(false, 14096), (true, 16384)] {
         match empty(alloc, is_ring, 0) {
-            Ok(buf) => in_turns(trial, buf, reading(&[7; 10000]), capacity)?,
-            Err(e) => trial.refused(e)?,
+            Ok(buf) => {
+                let it = BufReader::with_buffer(buf, reading(&[7; 10000]));
+                fills_greedily(trial, &mut reader_under(it, Greedy), capacity);
+            }
+            Err(e) => trial.refused(e),
         }
     }
-    Ok(())
 }

@@ -1,5 +1,5 @@
 //! Growths of either kind, with bytes that don't stand at the front.
-use crate::trial::{Trial, Wrong, granted, is, print, unchanged};
+use crate::trial::{Trial, print};
 use buffer_redux::{BufImpl, Buffer, GrowError, RawBuf, SliceDequeBuf, StdBuf};
 use std::alloc::Global;
 use std::fmt::Debug;
@@ -63,27 +63,18 @@ impl Grows for Buffer {
 }
 
 // Grows by so many bytes, to this capacity.
-fn grown<T: Grows>(
-    trial: &mut Trial,
-    it: &mut T,
-    more: usize,
-    capacity: usize,
-) -> Result<(), Wrong> {
+fn grown<T: Grows>(trial: &mut Trial, it: &mut T, more: usize, capacity: usize) {
     let before = print(it);
     if let Err(e) = it.grow(more) {
-        trial.refused(e)?;
-        unchanged(it, before)?;
-        granted(it.grow(more))?;
+        trial.refused(e);
+        trial.unchanged(it, before);
+        trial.granted(it.grow(more).is_ok());
     }
-    is(it.room() == capacity, "the capacity of what grew")
+    trial.sees(it.room() == capacity, "the capacity of what grew");
 }
 
 // The same of what was made.
-fn made_grows<T: Grows>(
-    trial: &mut Trial,
-    made: Result<T, GrowError>,
-    capacity: usize,
-) -> Result<(), Wrong> {
+fn made_grows<T: Grows>(trial: &mut Trial, made: Result<T, GrowError>, capacity: usize) {
     match made {
         Ok(mut it) => grown(trial, &mut it, 5000, capacity),
         Err(e) => trial.refused(e),
@@ -92,15 +83,14 @@ fn made_grows<T: Grows>(
 
 // The storage, and then a block of each type, either kind at once, and a buffer that hold three bytes behind two that were
 // consumed.
-pub fn blocks(alloc: Global, trial: &mut Trial) -> Result<(), Wrong> {
-    made_grows(trial, raw(alloc), 5004)?;
-    made_grows(trial, plain(alloc), 5005)?;
-    made_grows(trial, deque(alloc), 8192)?;
+pub fn blocks(alloc: Global, trial: &mut Trial) {
+    made_grows(trial, raw(alloc), 5004);
+    made_grows(trial, plain(alloc), 5005);
+    made_grows(trial, deque(alloc), 8192);
     for &(is_ring, capacity) in &[(false, 5005), (true, 8192)] {
-        made_grows(trial, block(alloc, is_ring), capacity)?;
-        made_grows(trial, placed(alloc, is_ring), capacity)?;
+        made_grows(trial, block(alloc, is_ring), capacity);
+        made_grows(trial, placed(alloc, is_ring), capacity);
     }
-    Ok(())
 }
 
 fn raw(alloc: Global) -> Result<RawBuf, GrowError> {
@@ -147,49 +137,47 @@ fn grows_second(
     buf: &mut Buffer,
     (first, before): (usize, usize),
     (second, after): (usize, usize),
-) -> Result<(), Wrong> {
-    granted(buf.reserve(first))?;
-    is(buf.capacity() == before, "a growth that wasn't needed")?;
-    grown(trial, buf, second, after)
+) {
+    trial.granted(buf.reserve(first).is_ok());
+    trial.sees(buf.capacity() == before, "a growth that wasn't needed");
+    grown(trial, buf, second, after);
 }
 
-pub fn twice(alloc: Global, trial: &mut Trial) -> Result<(), Wrong> {
+pub fn twice(alloc: Global, trial: &mut Trial) {
     for &(is_ring, held, first, second) in &[
         (false, [].as_slice(), (4, 4), (5, 9)),
         (true, [7; 10].as_slice(), (4086, 4096), (4087, 8192)),
     ] {
         match holding_in(alloc, is_ring, 4, held) {
-            Ok(mut buf) => grows_second(trial, &mut buf, first, second)?,
-            Err(e) => trial.refused(e)?,
+            Ok(mut buf) => grows_second(trial, &mut buf, first, second),
+            Err(e) => trial.refused(e),
         }
     }
-    Ok(())
 }
 
 // What doesn't fit grows the buffer by twice its length.
-fn push(trial: &mut Trial, buf: &mut Buffer, held: &[u8], capacity: usize) -> Result<(), Wrong> {
+fn push(trial: &mut Trial, buf: &mut Buffer, held: &[u8], capacity: usize) {
     let before = print(buf);
     if let Err(e) = buf.push_bytes(&[4, 5]) {
-        trial.refused(e)?;
-        unchanged(buf, before)?;
-        granted(buf.push_bytes(&[4, 5]))?;
+        trial.refused(e);
+        trial.unchanged(buf, before);
+        trial.granted(buf.push_bytes(&[4, 5]).is_ok());
     }
-    is(buf.capacity() == capacity, "the capacity behind a push")?;
-    is(
+    trial.sees(buf.capacity() == capacity, "the capacity behind a push");
+    trial.sees(
         buf.buf().strip_prefix(held) == Some(&[4, 5]),
         "what was pushed",
-    )
+    );
 }
 
-pub fn pushes(alloc: Global, trial: &mut Trial) -> Result<(), Wrong> {
+pub fn pushes(alloc: Global, trial: &mut Trial) {
     for &(is_ring, held, capacity) in &[
         (false, [1, 2, 3].as_slice(), 7),
         (true, &[7; 4095], 8192),
     ] {
         match holding_in(alloc, is_ring, 4, held) {
-            Ok(mut buf) => push(trial, &mut buf, held, capacity)?,
-            Err(e) => trial.refused(e)?,
+            Ok(mut buf) => push(trial, &mut buf, held, capacity),
+            Err(e) => trial.refused(e),
         }
     }
-    Ok(())
 }

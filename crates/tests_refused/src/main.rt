@@ -10,36 +10,36 @@ mod plays;
 mod streams;
 mod trial;
 
-use crate::trial::{Trial, Wrong};
+use crate::trial::Trial;
 use std::alloc::Global;
 use std::io;
 
 // All that may meet a refusal.
-fn checks(alloc: Global, trial: &mut Trial) -> Result<(), Wrong> {
-    makers::blocks(alloc, trial)?;
-    makers::over_streams(alloc, trial)?;
-    makers::of_frames(alloc, trial)?;
-    growths::blocks(alloc, trial)?;
-    growths::twice(alloc, trial)?;
-    growths::pushes(alloc, trial)?;
-    calls::over_placed(alloc, trial)?;
-    calls::from_nothing(alloc, trial)?;
-    calls::each_turn(alloc, trial)?;
-    plays::reads(alloc, trial)?;
-    plays::writes(alloc, trial)?;
-    copies::both_kinds(alloc, trial)
+fn checks(alloc: Global, trial: &mut Trial) {
+    makers::blocks(alloc, trial);
+    makers::over_streams(alloc, trial);
+    makers::of_frames(alloc, trial);
+    growths::blocks(alloc, trial);
+    growths::twice(alloc, trial);
+    growths::pushes(alloc, trial);
+    calls::over_placed(alloc, trial);
+    calls::from_nothing(alloc, trial);
+    calls::each_turn(alloc, trial);
+    plays::reads(alloc, trial);
+    plays::writes(alloc, trial);
+    copies::both_kinds(alloc, trial);
 }
 
 fn main(rt: HostRuntime) -> io::Result<()> {
-    let mut trial = Trial { met: false };
-    let mut outcome = checks(rt.alloc(), &mut trial);
+    let mut trial = Trial::new();
+    checks(rt.alloc(), &mut trial);
     // These meet refusals of their own.
-    if outcome.is_ok() && !trial.met {
-        outcome = makers::huge(rt.alloc());
+    if !trial.met {
+        makers::huge(rt.alloc(), &mut trial);
     }
-    match outcome {
-        Ok(()) if trial.met => println!(rt; "refused"),
-        Ok(()) => println!(rt; "no refusal"),
-        Err(what) => println!(rt; "wrong: {what}"),
+    match trial.wrong {
+        Some(what) => println!(rt; "wrong: {what}"),
+        None if trial.met => println!(rt; "refused"),
+        None => println!(rt; "no refusal"),
     }
 }

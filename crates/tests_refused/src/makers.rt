@@ -1,7 +1,7 @@
 //! Makers of either kind: a refused one hands its stream back, over which the same one answers.
 use crate::growths::Grows;
 use crate::streams::{Sink, Source, empty_sink, reading};
-use crate::trial::{Trial, Wrong, granted, is, print, unchanged};
+use crate::trial::{Trial, print};
 use buffer_redux::tell::{Tell, TellRead, TellWrite, Told};
 use buffer_redux::{
     BufImpl, BufReader, BufWriter, Buffer, GrowError, LineWriter, MAX_CAPACITY, MAX_RING,
@@ -148,64 +148,61 @@ impl<W: TellWrite + Drop> Made<W> for FrameWriter<W> {
     }
 }
 
-// The capacity of what is made.
+// The capacity of what is made, where it is.
+fn room_over<T: Made<S>, S: Drop>(made: Result<T, MakeError<S>>) -> Option<usize> {
+    Some(made.ok()?.room())
+}
+
 fn makes<T: Made<S>, S: Debug + Drop>(
     alloc: Global,
     trial: &mut Trial,
     form: Form,
     inner: S,
-) -> Result<usize, Wrong> {
+) -> Option<usize> {
     let before = print(&inner);
     match T::made(alloc, form, inner) {
-        Ok(it) => Ok(it.room()),
+        Ok(it) => Some(it.room()),
         Err(MakeError(inner, e)) => {
-            trial.refused(e)?;
-            unchanged(&inner, before)?;
-            Ok(granted(T::made(alloc, form, inner))?.room())
+            trial.refused(e);
+            trial.unchanged(&inner, before);
+            room_over(T::made(alloc, form, inner))
         }
     }
 }
 
-pub fn blocks(alloc: Global, trial: &mut Trial) -> Result<(), Wrong> {
+pub fn blocks(alloc: Global, trial: &mut Trial) {
     for &(which, capacity) in &BLOCKS {
-        let made = match capacity_of(alloc, which) {
-            Ok(made) => made,
-            Err(e) => {
-                trial.refused(e)?;
-                granted(capacity_of(alloc, which))?
-            }
-        };
-        is(made == capacity, "the capacity of a block")?;
+        let mut made = capacity_of(alloc, which);
+        if let Err(e) = made {
+            trial.refused(e);
+            made = capacity_of(alloc, which);
+        }
+        trial.sees(made.ok() == Some(capacity), "the capacity of a block");
     }
-    Ok(())
 }
 
-// The capacities of a reader, a writer and a writer of lines.
-fn rooms(alloc: Global, trial: &mut Trial, form: Form) -> Result<[usize; 3], Wrong> {
-    Ok([
-        makes::<BufReader<Told<Source<'static>>>, _>(alloc, trial, form, reading(b"ab"))?,
-        makes::<BufWriter<Sink>, _>(alloc, trial, form, empty_sink())?,
-        makes::<LineWriter<Sink>, _>(alloc, trial, form, empty_sink())?,
-    ])
-}
-
-pub fn over_streams(alloc: Global, trial: &mut Trial) -> Result<(), Wrong> {
+pub fn over_streams(alloc: Global, trial: &mut Trial) {
     for &(form, capacity) in &FORMS {
-        let rooms = rooms(alloc, trial, form)?;
-        is(rooms == [capacity; 3], "the capacity over a stream")?;
+        // Of a reader, a writer and a writer of lines.
+        let rooms = [
+            makes::<BufReader<Told<Source<'static>>>, _>(alloc, trial, form, reading(b"ab")),
+            makes::<BufWriter<Sink>, _>(alloc, trial, form, empty_sink()),
+            makes::<LineWriter<Sink>, _>(alloc, trial, form, empty_sink()),
+        ];
+        trial.sees(rooms == [Some(capacity); 3], "the capacity over a stream");
     }
-    Ok(())
 }
 
-pub fn of_frames(alloc: Global, trial: &mut Trial) -> Result<(), Wrong> {
-    let source = reading(b"ab");
-    let _ = makes::<FrameReader<Told<Source<'static>>>, _>(alloc, trial, Form::Usual, source)?;
-    let _ = makes::<FrameWriter<Sink>, _>(alloc, trial, Form::Usual, empty_sink())?;
-    Ok(())
+pub fn of_frames(alloc: Global, trial: &mut Trial) {
+    let rooms = [
+        makes::<FrameReader<Told<Source<'static>>>, _>(alloc, trial, Form::Usual, reading(b"ab")),
+        makes::<FrameWriter<Sink>, _>(alloc, trial, Form::Usual, empty_sink()),
+    ];
+    trial.granted(rooms == [Some(0); 2]);
 }
 
 // No machine has as much, and what passes the limit of its kind isn't asked for.
-pub fn huge(alloc: Global) -> Result<(), Wrong> {
+pub fn huge(alloc: Global, trial: &mut Trial) {
     for &(ring, capacity, passes) in &[
         (false, MAX_CAPACITY, false),
         (false, MAX_CAPACITY + 1, true),
@@ -218,7 +215,6 @@ pub fn huge(alloc: Global) -> Result<(), Wrong> {
             Some(GrowError::Memory) => !passes,
             None => false,
         };
-        is(so, "a huge buffer")?;
+        trial.sees(so, "a huge buffer");
     }
-    Ok(())
 }

@@ -1,7 +1,7 @@
 //! Lists of calls whose record finds no memory: the calls before are recorded whole, and the next wasn't begun. The calls
 //! that have no answer yet, played on the same run, end it as if nothing had happened.
 use crate::streams::{Sink, Source, empty_sink, reading, taken};
-use crate::trial::{Trial, Wrong, is, print};
+use crate::trial::{Trial, print};
 use buffer_redux::policy::{ReaderPolicy, WriterPolicy};
 use buffer_redux::tell::{TellRead, TellWrite, Told};
 use buffer_redux::{BufReader, BufWriter};
@@ -87,23 +87,25 @@ fn behind<T>(all: &[T], count: usize) -> &[T] {
 // Plays the calls that have no answer yet, and says whether that was refused.
 fn reads_on(
     alloc: Global,
+    trial: &mut Trial,
     rdr: &mut BufReader<Told<Source<'_>>>,
     run: &mut ReaderRun,
-) -> Result<bool, Wrong> {
+) -> bool {
     let left = behind(&READER_CALLS, run.answers.len());
     let refused = play_reads(alloc, rdr, left, run).is_err();
     let (done, handed) = (run.answers.len(), run.handed.as_slice());
     let state = [handed.len(), rdr.buf_len(), rdr.get_ref().get_ref().asks];
-    is(READER_STATES.get(done) == Some(&state), "what was read")?;
-    is(
-        BYTES.starts_with(handed) && begin(run.answers.as_slice(), &READER_ANSWERS),
-        "the bytes that were handed out, or the answers",
-    )?;
-    is(
+    trial.sees(READER_STATES.get(done) == Some(&state), "what was read");
+    trial.sees(BYTES.starts_with(handed), "the bytes that were handed out");
+    trial.sees(
+        begin(run.answers.as_slice(), &READER_ANSWERS),
+        "the answers",
+    );
+    trial.sees(
         refused == (done < 5),
         "calls are left out, or nothing is refused",
-    )?;
-    Ok(refused)
+    );
+    refused
 }
 
 fn reads_all(
@@ -111,56 +113,51 @@ fn reads_all(
     trial: &mut Trial,
     rdr: &mut BufReader<Told<Source<'_>>>,
     run: &mut ReaderRun,
-) -> Result<(), Wrong> {
-    if reads_on(alloc, rdr, run)? {
-        trial.meets()?;
-        is(!reads_on(alloc, rdr, run)?, "refused without need")?;
+) {
+    if reads_on(alloc, trial, rdr, run) {
+        trial.meets();
+        let is_refused = reads_on(alloc, trial, rdr, run);
+        trial.granted(!is_refused);
     }
-    Ok(())
 }
 
-pub fn reads(alloc: Global, trial: &mut Trial) -> Result<(), Wrong> {
-    let mut run = ReaderRun::new(alloc);
+pub fn reads(alloc: Global, trial: &mut Trial) {
     match reader(alloc, 4, &[], reading(&BYTES)) {
-        Ok(mut rdr) => reads_all(alloc, trial, &mut rdr, &mut run),
+        Ok(mut rdr) => reads_all(alloc, trial, &mut rdr, &mut ReaderRun::new(alloc)),
         Err(e) => trial.refused(e),
     }
 }
 
 // Plays the calls that have no answer yet, and says whether that was refused.
-fn writes_on(wrt: &mut BufWriter<Sink>, run: &mut WriterRun) -> Result<bool, Wrong> {
+fn writes_on(trial: &mut Trial, wrt: &mut BufWriter<Sink>, run: &mut WriterRun) -> bool {
     let left = behind(&WRITER_CALLS, run.answers.len());
     let refused = play_writes(wrt, left, run).is_err();
     let (done, sent) = (run.answers.len(), taken(wrt.get_ref()));
     let state = [sent.len(), wrt.buf_len()];
-    is(WRITER_STATES.get(done) == Some(&state), "what was sent")?;
-    is(
-        BYTES.starts_with(sent) && begin(run.answers.as_slice(), &WRITER_ANSWERS),
-        "the bytes that were sent, or the answers",
-    )?;
-    is(
+    trial.sees(WRITER_STATES.get(done) == Some(&state), "what was sent");
+    trial.sees(BYTES.starts_with(sent), "the bytes that were sent");
+    trial.sees(
+        begin(run.answers.as_slice(), &WRITER_ANSWERS),
+        "the answers",
+    );
+    trial.sees(
         refused == (done < 3),
         "calls are left out, or nothing is refused",
-    )?;
-    Ok(refused)
+    );
+    refused
 }
 
-fn writes_all(
-    trial: &mut Trial,
-    wrt: &mut BufWriter<Sink>,
-    run: &mut WriterRun,
-) -> Result<(), Wrong> {
-    if writes_on(wrt, run)? {
-        trial.meets()?;
-        is(!writes_on(wrt, run)?, "refused without need")?;
+fn writes_all(trial: &mut Trial, wrt: &mut BufWriter<Sink>, run: &mut WriterRun) {
+    if writes_on(trial, wrt, run) {
+        trial.meets();
+        let is_refused = writes_on(trial, wrt, run);
+        trial.granted(!is_refused);
     }
-    Ok(())
 }
 
-pub fn writes(alloc: Global, trial: &mut Trial) -> Result<(), Wrong> {
-    let mut run = WriterRun::new(alloc);
+pub fn writes(alloc: Global, trial: &mut Trial) {
     match writer(alloc, 2, &[], empty_sink()) {
-        Ok(mut wrt) => writes_all(trial, &mut wrt, &mut run),
+        Ok(mut wrt) => writes_all(trial, &mut wrt, &mut WriterRun::new(alloc)),
         Err(e) => trial.refused(e),
     }
 }

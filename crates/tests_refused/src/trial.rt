@@ -4,22 +4,6 @@ use std::fmt;
 use std::fmt::Write;
 use std::io::ErrorKind;
 
-/// What isn't as it should be.
-pub type Wrong = &'static str;
-
-/// `what`, unless it is so.
-pub fn is(so: bool, what: Wrong) -> Result<(), Wrong> {
-    if so { Ok(()) } else { Err(what) }
-}
-
-/// The answer of a call that can't be refused: it takes no memory, or the run met its refusal.
-pub fn granted<T, E: Drop>(outcome: Result<T, E>) -> Result<T, Wrong> {
-    match outcome {
-        Ok(answer) => Ok(answer),
-        Err(_) => Err("refused without need"),
-    }
-}
-
 // The hash FNV-1a of what was written.
 #[derive(Drop)]
 struct Hash(u64);
@@ -40,37 +24,56 @@ pub fn print<T: fmt::Debug>(value: &T) -> u64 {
     hash.0
 }
 
-/// `Ok`, where a value that a refused call left prints what it did before.
-pub fn unchanged<T: fmt::Debug>(value: &T, before: u64) -> Result<(), Wrong> {
-    is(print(value) == before, "a refusal changes something")
-}
-
-/// Whether a run met its refusal.
+/// Whether a run met its refusal, and what wasn't as it should be first.
 #[derive(Drop)]
 pub struct Trial {
     pub met: bool,
+    pub wrong: Option<&'static str>,
 }
 
 impl Trial {
+    /// Before a run.
+    pub fn new() -> Trial {
+        Trial {
+            met: false,
+            wrong: None,
+        }
+    }
+
+    /// Notes `what`, unless it is so. Nothing ends here, so that no function but `main` has to.
+    pub fn sees(&mut self, so: bool, what: &'static str) {
+        if !so && self.wrong.is_none() {
+            self.wrong = Some(what);
+        }
+    }
+
+    /// Sees that a call succeeded which can't be refused: it takes no memory, or the run met its refusal.
+    pub fn granted(&mut self, is_ok: bool) {
+        self.sees(is_ok, "refused without need");
+    }
+
+    /// Sees that a value which a refused call left prints what it did before.
+    pub fn unchanged<T: fmt::Debug>(&mut self, value: &T, before: u64) {
+        self.sees(print(value) == before, "a refusal changes something");
+    }
+
     /// Notes the refusal. A run meets one at the most.
-    pub fn meets(&mut self) -> Result<(), Wrong> {
-        is(!self.met, "refused twice")?;
+    pub fn meets(&mut self) {
+        let is_first = !self.met;
+        self.sees(is_first, "refused twice");
         self.met = true;
-        Ok(())
     }
 
     /// The same of a call that returns this error.
-    pub fn refused(&mut self, error: GrowError) -> Result<(), Wrong> {
-        is(
-            matches!(error, GrowError::Memory),
-            "a growth passes its limit",
-        )?;
-        self.meets()
+    pub fn refused(&mut self, error: GrowError) {
+        let is_memory = matches!(error, GrowError::Memory);
+        self.sees(is_memory, "a growth passes its limit");
+        self.meets();
     }
 
     /// The same of a call that returns an error of io of this kind.
-    pub fn failed(&mut self, kind: ErrorKind) -> Result<(), Wrong> {
-        is(kind == ErrorKind::OutOfMemory, "a stream or a policy fails")?;
-        self.meets()
+    pub fn failed(&mut self, kind: ErrorKind) {
+        self.sees(kind == ErrorKind::OutOfMemory, "a stream or a policy fails");
+        self.meets();
     }
 }
