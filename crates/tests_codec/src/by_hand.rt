@@ -1,6 +1,6 @@
 //! Readers that are taken apart and go on, and the buffers of readers of pieces.
 use crate::asks::{Asks, Log, walk};
-use crate::readers::{frame_reader, line_reader, lines_of};
+use crate::readers::{HUGE, frame_reader, line_reader, lines_of};
 use Way::{Fitted, Handed, OfFrames, OfLines, Reset};
 use buffer_redux::{Buffer, MakeError};
 use codec::laws::handed_over;
@@ -13,9 +13,6 @@ use std::test::Fail;
 use tests_common::{Source, holding_in, source};
 
 type Lines = PieceReader<Source, Delimited>;
-
-// No buffer holds three lines of so many bytes.
-const HUGE: usize = 0x4000_0000_0000_0000;
 
 // How a reader goes on behind its first piece.
 #[derive(Clone, Copy)]

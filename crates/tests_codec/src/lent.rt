@@ -1,9 +1,14 @@
-//! Bodies of messages whose payload is lent.
+//! Bodies of messages whose payload is lent, and the other calls of a reader of a body.
+use crate::asks::gives;
+use body_reader::{BodyReader, Sized};
 use buffer_redux::tell::TellRead;
 use messages::{Body, Requests};
 use redux_script::Answer;
+use std::alloc::Global;
+use std::io;
+use std::io::{BufRead, ErrorKind, Read};
 use std::test::Fail;
-use tests_common::source;
+use tests_common::{Source, consume, fill_buf, holding, source};
 
 const SIZED: &[u8] = b"PUT / HTTP/1.1\r\nHost: h\r\nContent-Length: 5\r\n\r\nhello";
 
@@ -45,5 +50,46 @@ fn lends_bodies(rt: HostRuntime) -> Result<(), Fail> {
         };
         assert!(rt; lent, "row {row}");
     }
+    Ok(())
+}
+
+// Whether the other calls do what they say, over a buffer that holds `ab`, and a stream that fails, and then has `xc`, a line
+// feed and `deGET`.
+fn answers(alloc: Global, mut body: BodyReader<Source, Sized>) -> io::Result<bool> {
+    let mut out = [0; 8];
+    let held = body.read_buffered(&mut out) == 2 && body.place() == 5 && body.taken() == 2;
+    let none = body.get_ref().buffer().is_empty() && fill_buf(&mut body).is_err();
+    let shown = fill_buf(&mut body)? == b"xc\nde".as_slice();
+    consume(&mut body, 1);
+    let mut line = Vec::new(alloc);
+    let count = body.read_until(b'\n', &mut line)?;
+    let rest = body.read(&mut out)?;
+    let ended = body.is_done() && !body.is_at_end()?;
+    let past = gives(body.get_mut(), b"?");
+    let Ok(inner) = body.finish() else {
+        return Ok(false);
+    };
+    Ok(
+        held && none
+            && shown
+            && count == 2
+            && line.as_slice() == b"c\n".as_slice()
+            && rest == 2
+            && ended
+            && past == Some(false)
+            && inner.buffer() == b"GET".as_slice(),
+    )
+}
+
+#[test]
+fn other_calls(rt: HostRuntime) -> Result<(), Fail> {
+    let alloc = rt.alloc();
+    let script = [Answer::Fail(ErrorKind::TimedOut)];
+    let stream = source(alloc, b"xc\ndeGET", &script)?;
+    let seen = match BodyReader::with_buffer(holding(alloc, 8, b"ab")?, stream, Sized(7)) {
+        Ok(body) => answers(alloc, body)?,
+        Err(_) => false,
+    };
+    assert!(rt; seen);
     Ok(())
 }

@@ -255,9 +255,15 @@ fn lines(alloc: Global, max: usize, walked: Walk<'_>) -> io::Result<Option<Came>
     Ok(walk(alloc, reader, row.1, again))
 }
 
-/// Lines of at most so many bytes.
+/// No buffer holds three lines of so many bytes.
+pub const HUGE: usize = 0x4000_0000_0000_0000;
+
+/// Lines of at most so many bytes, or of `HUGE`.
 pub fn lines_of(max: usize) -> Delimited {
-    Delimited { end: b'\n', max }
+    Delimited {
+        end: b'\n',
+        max: max.min(HUGE),
+    }
 }
 
 fn walks(alloc: Global, kind: Kind, row: Walk<'_>) -> io::Result<Option<Came>> {

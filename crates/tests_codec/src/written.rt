@@ -1,7 +1,7 @@
 //! Writers of pieces and of frames over a stream that takes little, and that fails at each call in turn.
 use crate::asks::{Asks, Log, walk_through};
 use crate::readers::Kind::{Bulk, Frames, LengthsOf, Lines, Net};
-use crate::readers::{Kind, lines_of};
+use crate::readers::{HUGE, Kind, lines_of};
 use buffer_redux::tell::TellWrite;
 use buffer_redux::{Buffer, IntoInnerError, MakeError};
 use codec::laws::written_over;
@@ -326,9 +326,6 @@ fn comes_apart(rt: HostRuntime) -> Result<(), Fail> {
     }
     Ok(())
 }
-
-// No buffer holds three lines of so many bytes.
-const HUGE: usize = 0x4000_0000_0000_0000;
 
 fn over_again(
     alloc: Global,
