@@ -7,8 +7,10 @@ use codec::laws::handed_over;
 use codec::{Delimited, PieceReader, find_end, fit_buffer, piece_buffer};
 use frame_reader::FrameReader;
 use line_reader::LineReader;
+use redux_script::Answer;
 use std::alloc::Global;
 use std::io;
+use std::io::ErrorKind;
 use std::test::Fail;
 use tests_common::{Source, holding_in, source};
 
@@ -69,8 +71,13 @@ fn lines_of_parts(
     lines: LineReader<Source>,
     max: usize,
 ) -> Option<LineReader<Source>> {
-    let (inner, buffer, _) = lines.into_inner_with_buffer();
+    let (inner, buffer, _) = lines.into_inner_with_buffer().ok()?;
     LineReader::with_buffer(alloc, buffer, inner, max).ok()
+}
+
+// The reader that is handed back, where it isn't taken apart.
+fn handed_back(lines: LineReader<Source>) -> Option<LineReader<Source>> {
+    lines.into_inner_with_buffer().err()
 }
 
 fn frames_of_parts(alloc: Global, frames: FrameReader<Source>) -> Option<FrameReader<Source>> {
@@ -125,6 +132,25 @@ fn goes_on(alloc: Global, row: (Way, usize, &[u8])) -> io::Result<bool> {
         OfFrames => frames_go_on(alloc, wants),
         _ => pieces_go_on(alloc, way, max, wants),
     }
+}
+
+// A reader in whose line a skip failed.
+fn within_a_line(alloc: Global) -> io::Result<LineReader<Source>> {
+    let script = [Answer::Serve(3), Answer::Fail(ErrorKind::TimedOut)];
+    let mut lines = line_reader(alloc, 3, source(alloc, b"abcdef\nok", &script)?)?;
+    let _ = lines.ask(b"d", &mut Log::new(alloc));
+    Ok(lines)
+}
+
+fn stays_within_a_line(alloc: Global) -> io::Result<bool> {
+    let lines = within_a_line(alloc)?;
+    Ok(comes_to(alloc, handed_back(lines), b"k true|n ok|n end|"))
+}
+
+#[test]
+fn stays_whole_within_a_line(rt: HostRuntime) -> Result<(), Fail> {
+    assert!(rt; stays_within_a_line(rt.alloc())?);
+    Ok(())
 }
 
 #[test]
