@@ -1,9 +1,9 @@
 -- Answers, one after another.
 use Rattle.std.proofs.Common.{IfSome, ◌≡◌, ℕ, Bool, true, false, List, [], ◌++◌, length, Option, None, Some, Result, Ok, Err, sym, subst, inl, inr, refl}
-use Rattle.requests.proofs.Names.{All-nil, answered, AnswersEach, AnswersWhole, AsksFew, AwaitsBody, BadRequest, Begun, Begun-message, Begun-went, body_rules, Both, Buffered, CallsFor, coding_of, early_refusal, Ending, ending_of, EndsUntaken, Enters, Error, faults_of, handed_of, HandsOutInOrder-none, Heads, heads, InBody, Inside, InsideGoes, Io, is_known, is_large, IsAwaited, IsBody, IsLastTurn, IsMessage, IsOpen, IsPartTaken, IsToBeRefused, LargeBody, left_of, MayFollow, Message, OnlyInterrupts, Over, ParsedHead, Place, Prompt, ReaderState, Refusal, refusal, RunEndsBy, RunsToLast, sending_of, sent_till, StdPolicy, stream_at, stream_in, StreamLog, StreamWent-joins, StreamWent-none, TakeFails, TakesWhole, Truncated, Unbuffered, Unread, Untaken, usual, WritesParts, Wrong}
+use Rattle.requests.proofs.Names.{All-nil, answered, AnswersEach, AnswersWhole, AsksFew, AwaitsBody, AwaitsHead, BadRequest, Begun, Begun-message, Begun-went, body_rules, Both, Buffered, CallsFor, coding_of, early_refusal, Ending, ending_of, ends_of, EndsUntaken, Enters, Error, faults_of, handed_of, HandsOutInOrder-none, Heads, InBody, Inside, InsideGoes, Io, is_known, is_large, IsAwaited, IsBody, IsLastTurn, IsMessage, IsPartTaken, IsToBeRefused, LargeBody, left_of, MayFollow, Message, OnlyInterrupts, Over, ParsedHead, Place, Prompt, ReaderState, Refusal, refusal, RunEndsBy, RunsToLast, sending_of, sent_till, StdPolicy, stream_at, stream_in, StreamLog, StreamWent-joins, StreamWent-none, TakeFails, TakesWhole, Truncated, Unbuffered, Unread, Untaken, usual, WritesParts, Wrong}
 use Rattle.requests.specs.declared.Ending.TheVariants as stop
 use Rattle.requests.specs.declared.taking.Untaken.TheVariants.{Body, Large, Unsent, Many}
-use Rattle.requests.proofs.Reading.{AsksFew-after, IsMany-still, IsToBeRefused-still, FailsInRead-still, begun_head, begun_steady, begun_usual, is_part, joined, part_went}
+use Rattle.requests.proofs.Reading.{AsksFew-after, IsMany-still, FailsInRead-still, begun_head, begun_steady, begun_usual, is_part, joined, part_went}
 use Rattle.requests.proofs.Sending.{Prompt-none, Prompt-on}
 
 module _ {W : Type 0} {tells : W → StreamLog} {trace : W → W → Type 0} where
@@ -13,17 +13,17 @@ module _ {W : Type 0} {tells : W → StreamLog} {trace : W → W → Type 0} whe
       → Prompt tells trace (IsAwaited said.extent) a sending b
       → Prompt tells trace (AwaitsBody head said) a sending b
   awaits head said {a} {b} sending open' = Prompt-on (IsAwaited said.extent) (AwaitsBody head said) a a b sending
-      (HandsOutInOrder-none a.0) (λ more is. (open', is)) (Prompt-none (AwaitsBody head said) a)
+      (HandsOutInOrder-none a.0) (λ front behind is. (open', is)) (Prompt-none (AwaitsBody head said) a)
 
   module _ {R : Type 0} {remaining : R → Option (List ℕ)} where
     -- no turn was taken
     pub no_turn : (a : Both R W) → AnswersEach remaining tells trace [] a a
-    no_turn a = (StreamWent-none remaining a.0, Prompt-none (IsOpen (heads usual)) a)
+    no_turn a = (StreamWent-none remaining a.0, Prompt-none AwaitsHead a)
 
     module _ {s : Unbuffered R} {w w' : Buffered W StdPolicy} (taken handed : List ℕ) (place : Place R)
         (part : IsPartTaken place taken handed) (asks : AsksFew s (stream_at place)) where
       -- a run of one turn, in which one message went, or none
-      pub RunsToLast-one : (last : List Message) (refuses : Option Refusal) → IfSome refuses (IsToBeRefused s place)
+      pub RunsToLast-one : (last : List Message) (refuses : Option Refusal) → IfSome refuses (IsToBeRefused (ends_of s) place)
           → (ending : Ending)
           → IsLastTurn remaining tells trace last taken place refuses (s, w) (sending_of ending) (stream_at place, w')
           → RunEndsBy remaining tells trace s last taken handed refuses place ending
@@ -43,7 +43,7 @@ module _ {W : Type 0} {tells : W → StreamLog} {trace : W → W → Type 0} whe
       -- what comes is refused, before a message went
       pub RunsToLast-refused : (why : Refusal) (sending : Result (Unit {0}) Error)
           → IsLastTurn remaining tells trace [] taken place (Some why) (s, w) sending (stream_at place, w')
-          → IsToBeRefused s place why → OnlyInterrupts (faults_of s) (faults_of (stream_at place))
+          → IsToBeRefused (ends_of s) place why → OnlyInterrupts (faults_of s) (faults_of (stream_at place))
           → RunsToLast remaining tells trace s w place (ending_of sending) w'
       RunsToLast-refused why (Ok x) turn wrong met =
           RunsToLast-one [] (Some why) wrong Over turn (met, inr (All-nil (MayFollow true), inl refl))
@@ -70,7 +70,8 @@ module _ {W : Type 0} {tells : W → StreamLog} {trace : W → W → Type 0} whe
 
         refused_torn : {v w' : Buffered W StdPolicy} (why : Refusal) (answer : Result (Unit {0}) Error)
             → AsksFew (stream_in b) (stream_in t)
-            → OnlyInterrupts (faults_of (stream_in b)) (faults_of (stream_in t)) → IsToBeRefused (stream_in b) (Inside t) why
+            → OnlyInterrupts (faults_of (stream_in b)) (faults_of (stream_in t))
+            → IsToBeRefused (ends_of (stream_in b)) (Inside t) why
             → Prompt tells trace (IsAwaited b.said.extent) (stream_in b, u) (Ok tt) (stream_in t, v)
             → WritesParts tells trace v (refusal why false) answer w'
             → RunsToLast remaining tells trace (left_of s) w (Inside t) (ending_of answer) w'
@@ -79,7 +80,7 @@ module _ {W : Type 0} {tells : W → StreamLog} {trace : W → W → Type 0} whe
             (is_part begun enters goes)
             (AsksFew-after (begun_steady begun) few) why answer
             (part_went begun goes, inr ((stream_in b, u), called_here, (v, awaits_here (Ok tt) v on, parts)))
-            (IsToBeRefused-still (begun_steady begun) (Inside t) why torn)
+            (subst (λ n. IsToBeRefused n (Inside t) why) (begun_steady begun).ends torn)
             (joined (begun_steady begun) (stream_in t) reads)
 
         -- nothing is refused, and the run ends so

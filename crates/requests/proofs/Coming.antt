@@ -1,6 +1,6 @@
 -- What was sent before a further head was asked for.
-use Rattle.std.proofs.Common.{◌≡◌, ◌⊎◌, ◌∙◌, ◌<◌, ◌+◌, ℕ, Bool, true, false, MatchBool, List, [], ◌∷◌, ◌++◌, length, Option, None, Some, Result, Ok, Err, inl, inr, ap, refl, sym, subst, arith, length-append}
-use Rattle.requests.proofs.Names.{AskedOver, AskedWhere, AsksNone-settled, BadHead, body_rules, BodyCoding, Breaks, Buffered, empty_reads, EndsEarly, Error, Heads, heads, heads_lawful, InBody, InsideGoes, IsBodyReader, IsOpen, IsSettled, LeadsOpen, left_of, Malformed, NextAnswer, NextPiece, nil_from_length, NoEnd, one_ahead, PiecesWent-stream, PiecesWent-unasked, Prompt, Reader, ReaderState, rest, SendsUnless, Side, StdPolicy, stream_in, StreamLog, TookWholeBody, Unbuffered, usual}
+use Rattle.std.proofs.Common.{◌≡◌, ◌⊎◌, ◌∙◌, ◌<◌, ◌+◌, ℕ, Bool, true, false, MatchBool, List, [], ◌∷◌, ◌++◌, length, Option, None, Some, Ok, Err, inl, inr, ap, refl, sym, subst, arith, length-append}
+use Rattle.requests.proofs.Names.{AskedOver, AskedOver-on, AskedWhere, AsksNone-settled, AwaitsHead, AwaitsMore, BadHead, body_rules, BodyCoding, Breaks, Buffered, empty_reads, EndsEarly, Error, HandsOutInOrder-joins, Heads, heads, heads_lawful, InBody, InsideGoes, IsBodyReader, IsOpen, IsSettled, LeadsOpen, left_of, Malformed, NextAnswer, NextPiece, nil_from_length, NoEnd, one_ahead, PiecesWent-stream, PiecesWent-unasked, Prompt, Reader, ReaderState, rest, SendsUnless, Side, StdPolicy, stream_in, StreamLog, TookWholeBody, Unbuffered, usual}
 use Rattle.codec.specs.declared.NextError.TheVariants as why
 use Rattle.requests.proofs.Sending.{Prompt-asked, Prompt-on, Prompt-read, Prompt-unsent}
 use Rattle.requests.proofs.Reading.{begins_on, inside_went, wrong_unasked}
@@ -55,7 +55,7 @@ settled_where s t same (Err (why.Io e)) next = absurd (omega (
 -- and where nothing is settled the stream is asked
 asks_where : {R : Type 0} {remaining : R → Option (List ℕ)} (s t : ReaderState R Heads) (answer : NextAnswer BadHead)
     → NextPiece remaining (heads usual) s answer t → (¬ (IsSettled (heads usual) s))
-    → AskedOver (IsOpen (heads usual)) (left_of s) (left_of t)
+    → AskedOver (AwaitsHead []) (left_of s) (left_of t)
 asks_where s t answer next unsettled = elim next.asked [
   | inl same ↦ absurd (unsettled (settled_where s t same answer next))
   | inr over ↦ over.1
@@ -87,9 +87,9 @@ shown_unasked count out m t whole zero some goes_on short asked shown = elim sho
 pub comes : {R W : Type 0} {remaining : R → Option (List ℕ)} {tells : W → StreamLog} {trace : W → W → Type 0}
     (s : ReaderState R Heads) (w v : Buffered W StdPolicy) → SendsUnless tells trace (IsSettled (heads usual) s) w (Ok tt) v
     → (answer : NextAnswer BadHead) (t : ReaderState R Heads) → NextPiece remaining (heads usual) s answer t
-    → Prompt tells trace (IsOpen (heads usual)) (left_of s, w) (Ok tt) (left_of t, v)
+    → Prompt tells trace AwaitsHead (left_of s, w) (Ok tt) (left_of t, v)
 comes {remaining = remaining} s w v sends answer t next =
-    Prompt-asked (IsOpen (heads usual)) (left_of s) (left_of t) w v
+    Prompt-asked AwaitsHead (left_of s) (left_of t) w v
     (PiecesWent-stream remaining (heads usual).most s t next.bytes next.went).order sends
     (asks_where s t answer next)
     (λ settled. AsksNone-settled remaining (heads usual) (heads_lawful usual) s settled answer t next)
@@ -100,37 +100,36 @@ asked_more : {R : Type 0} (s t : Unbuffered R) (Open : List ℕ → Type 0) → 
 asked_more s t Open (inl same) more = absurd (omega (arith, more, ap (λ l. l.reads.asks) same))
 asked_more s t Open (inr over) more = over
 
--- more of this body
-abbrev pub GoesOn : {R : Type 0} → InBody R → List ℕ → Type 0
-GoesOn b = LeadsOpen (body_rules b.body.coding) b.body.place []
-
 module _ {R W : Type 0} {remaining : R → Option (List ℕ)} {tells : W → StreamLog} {trace : W → W → Type 0}
     (b m : InBody R) (whole : IsBodyReader (body_rules b.body.coding) b.body) (goes : InsideGoes remaining b [] m)
     (same : (stream_in m).log ≡ (stream_in b).log) (w v : Buffered W StdPolicy) where
-  -- more of the body behind bytes that were no payload
-  behind_none : (t : Unbuffered R) (sending : Result (Unit {0}) Error)
-      → Prompt tells trace (GoesOn m) (stream_in m, w) sending (t, v)
-      → Prompt tells trace (GoesOn b) (stream_in b, w) sending (t, v)
-  behind_none t sending = Prompt-on (GoesOn m) (GoesOn b) (stream_in b, w) (stream_in m, w) (t, v) sending
-      (inside_went goes).order (λ more on. begins_on whole goes more on)
-      (Prompt-read (GoesOn b) w (inside_went goes).order same)
-
   -- what was held couldn't be sent where no more of a body is buffered
   pub unsent_empty : (e : Error) → SendsUnless tells trace (0 < length (stream_in m).left) w (Err e) v
-      → Prompt tells trace (GoesOn b) (stream_in b, w) (Err e) (stream_in m, v)
-  unsent_empty e sends = behind_none (stream_in m) (Err e) (Prompt-unsent (GoesOn m) (stream_in m) w v e sends
+      → Prompt tells trace (AwaitsMore b) (stream_in b, w) (Err e) (stream_in m, v)
+  unsent_empty e sends =
+      let never = λ (front : List ℕ) (behind : List ℕ). ⊥ in
+      Prompt-on never (AwaitsMore b) (stream_in b, w) (stream_in m, w) (stream_in m, v) (Err e) (inside_went goes).order
+      (λ front behind odd. absurd odd) (Prompt-read (AwaitsMore b) w (inside_went goes).order same)
+      (Prompt-unsent never (stream_in m) w v e sends
       (λ lacks. inl (nil_from_length (stream_in m).left (omega (arith, lacks)))))
 
   -- or it was, and then the stream was asked for more
   pub comes_inside : {then : List ℕ} (t : InBody R) (count : ℕ) (out : List ℕ) → InsideGoes remaining m then t
       → SendsUnless tells trace (0 < length (stream_in m).left) w (Ok tt) v → count ≡ 0 → 0 < length out
       → ¬ (TookWholeBody (body_rules m.body.coding) m.body) → NoneLeft m.body.coding m.body count (length out)
-      → AskedWhere (GoesOn m) (stream_in m) (stream_in t)
+      → AskedWhere (LeadsOpen (body_rules m.body.coding) m.body.place []) (stream_in m) (stream_in t)
       → ((stream_in m).left ≡ [] → ¬ (TookWholeBody (body_rules m.body.coding) m.body)
       → (stream_in m).log.reads.asks < (stream_in t).log.reads.asks)
-      → Prompt tells trace (GoesOn b) (stream_in b, w) (Ok tt) (stream_in t, v)
+      → Prompt tells trace (AwaitsMore b) (stream_in b, w) (Ok tt) (stream_in t, v)
   comes_inside t count out more sends zero some goes_on short asked asks =
-      behind_none (stream_in t) (Ok tt) (Prompt-asked (GoesOn m) (stream_in m) (stream_in t) w v (inside_went more).order sends
-      (λ lacks. asked_more (stream_in m) (stream_in t) (GoesOn m) asked
-      (asks (nil_from_length (stream_in m).left (omega (arith, lacks))) goes_on))
-      (shown_unasked count out m t goes.whole zero some goes_on short asked))
+      let first = (inside_went goes).order in
+      let rules = LeadsOpen (body_rules m.body.coding) m.body.place [] in
+      Prompt-asked (AwaitsMore b) (stream_in b) (stream_in t) w v
+      (HandsOutInOrder-joins (stream_in b) (stream_in m) (stream_in t) _ _ first (inside_went more).order) sends
+      (λ lacks. AskedOver-on rules (AwaitsMore b []) (stream_in b) (stream_in m) (stream_in t) _ first
+      (omega (arith, ap (λ l. l.reads.asks) same))
+      (omega (arith, ap (λ l. l.reads.asks) same, ap (λ l. length l.reads.given) same))
+      (λ then on. (refl, begins_on whole goes then on))
+      (asked_more (stream_in m) (stream_in t) rules asked
+      (asks (nil_from_length (stream_in m).left (omega (arith, lacks))) goes_on)))
+      (λ shown. shown_unasked count out m t goes.whole zero some goes_on short asked shown ∙ same)

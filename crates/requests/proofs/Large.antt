@@ -1,8 +1,8 @@
 -- Which bodies are too large.
-use Rattle.std.proofs.Common.{◌≡◌, ℕ, ◌+◌, ◌-◌, ◌*◌, ◌^◌, ◌≤◌, ◌⊎◌, ◌++◌, ◌||◌, nat_lt, min, Bool, true, false, List, [], Option, length, sym, ap, subst, inl, inr, ◌∙◌, refl, arith}
-use Rattle.requests.proofs.Names.{body_rules, cases_lt, coding_of, Enters, false≢true, handed_of, InBody, InsideGoes, is_large, IsAwaited, IsBodyReader, le-ltb, LeadsOpen, lt-ltb, max_payload, TurnsLarge, usual}
+use Rattle.std.proofs.Common.{◌≡◌, ℕ, ◌+◌, ◌-◌, ◌*◌, ◌^◌, ◌≤◌, ◌⊎◌, ◌++◌, ◌||◌, nat_lt, min, Bool, true, false, List, [], Option, length, sym, ap, subst, inl, inr, ◌∙◌, refl, arith, append-nil}
+use Rattle.requests.proofs.Names.{body_rules, BodyCoding, cases_lt, coding_of, Enters, false≢true, AwaitsMore, handed_of, InBody, InsideGoes, is_large, IsAwaited, IsBodyReader, le-ltb, LeadsOpen, lt-ltb, max_payload, TurnsLarge, usual}
 use Rattle.body_reader.specs.Coding.{Leads, heeded}
-use Rattle.body_reader.specs.CodingLaws.{Leads-more, heeded_on}
+use Rattle.body_reader.specs.declared.either.Either.TheVariants as which
 use Rattle.messages.specs.declared.head.Extent.{Extent}
 use Rattle.messages.specs.declared.head.Extent.TheVariants.{Sized, Chunked}
 
@@ -59,32 +59,29 @@ turns_large {m = m} {t = t} {last = last} whole goes noted small many large = re
   );
 }
 
+-- neither coding heeds what follows
+unheeded : (c : BodyCoding) (follow : List ℕ) → heeded (body_rules c) follow ≡ []
+unheeded (which.First c) follow = refl
+unheeded (which.Second c) follow = refl
+
 -- more of the body is awaited behind what was read of it, where that goes on and isn't too large
 pub awaited : {S : Type 0} {remaining : S → Option (List ℕ)} {b m : InBody S} {payload : List ℕ} → Enters usual b
     → (goes : InsideGoes remaining b payload m)
-    → is_large b.said.extent (length m.body.taken) (length (handed_of m.body)) ≡ false → (more : List ℕ)
-    → LeadsOpen (body_rules m.body.coding) m.body.place [] (m.body.reader.block.bytes ++ more)
-    → IsAwaited b.said.extent (goes.went.wire ++ (m.body.reader.block.bytes ++ more))
-awaited {b = b} {m = m} enters goes small more on =
-    let bytes = m.body.reader.block.bytes in
+    → is_large b.said.extent (length m.body.taken) (length (handed_of m.body)) ≡ false → (front behind : List ℕ)
+    → AwaitsMore m front behind → IsAwaited b.said.extent (goes.went.wire ++ front) behind
+awaited {b = b} {m = m} enters goes small front behind (none, on) =
     let handed = handed_of m.body in
     let p = m.body.place in
     let coding : m.body.coding ≡ coding_of usual b.said.extent = goes.went.coding ∙ ap (λ x. x.body.coding) enters.is in
-    let wire : m.body.taken ≡ goes.went.wire = goes.went.taken ∙ ap (λ x. x.body.taken ++ goes.went.wire) enters.is in
-    let ahead = heeded_on (body_rules m.body.coding) [] bytes more (bytes ++ more) refl in
-    let leads = Leads-more (body_rules m.body.coding) (body_rules m.body.coding).first p m.body.taken handed
-    (heeded (body_rules m.body.coding) bytes) ahead.0 goes.whole.leads in
+    let wire : m.body.taken ≡ goes.went.wire ++ front = goes.went.taken
+    ∙ ap (λ x. x.body.taken ++ goes.went.wire) enters.is ∙ sym (ap (λ l. goes.went.wire ++ l) none ∙ append-nil goes.went.wire) in
     record {
-      front = goes.went.wire;
-      behind = bytes ++ more;
-      equal = refl;
       payload = handed;
       place = p;
-      leads = subst (λ x. Leads (body_rules x) (body_rules x).first goes.went.wire handed p
-          (heeded (body_rules x) (bytes ++ more))) coding
-          (subst (λ l. Leads (body_rules m.body.coding) (body_rules m.body.coding).first l handed p
-          (heeded (body_rules m.body.coding) (bytes ++ more))) wire
-          (subst (Leads (body_rules m.body.coding) (body_rules m.body.coding).first m.body.taken handed p) (sym ahead.1) leads));
+      leads = subst (λ x. Leads (body_rules x) (body_rules x).first (goes.went.wire ++ front) handed p []) coding
+          (subst (λ l. Leads (body_rules m.body.coding) (body_rules m.body.coding).first l handed p []) wire
+          (subst (Leads (body_rules m.body.coding) (body_rules m.body.coding).first m.body.taken handed p)
+          (unheeded m.body.coding m.body.reader.block.bytes) goes.whole.leads));
       small = subst (λ l. is_large b.said.extent (length l) (length handed) ≡ false) wire small;
-      more = subst (λ x. LeadsOpen (body_rules x) p [] (bytes ++ more)) coding on;
+      more = subst (λ x. LeadsOpen (body_rules x) p [] behind) coding on;
     }

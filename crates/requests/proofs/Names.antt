@@ -1,5 +1,6 @@
 -- The names that proofs take from other crates, in one place.
 pub use Rattle.buffer_redux.specs.Asking.{AskedOver, AskedWhere}
+pub use Rattle.buffer_redux.specs.AskingLaws.{AskedOver-on}
 pub use Rattle.buffer_redux.specs.Buffered.{Buffered}
 pub use Rattle.buffer_redux.specs.StreamLog.{StreamLog}
 pub use Rattle.body_reader.specs.BodyReader.{Breaks, EndsEarly, handed_of, IsBodyReader, NoPayload, ReadsPayload, TookWholeBody}
@@ -7,7 +8,7 @@ pub use Rattle.body_reader.specs.Coding.{IsBody, LeadsOpen}
 pub use Rattle.body_reader.specs.declared.either.Side.{Side}
 pub use Rattle.buffer_redux.specs.Policy.{std_read_rules}
 pub use Rattle.buffer_redux.specs.Unbuffer.{HandsOutInOrder, StreamWent, Unbuffered, unbuffered}
-pub use Rattle.buffer_redux.specs.UnbufferLaws.{HandsOutInOrder-none, ReadsAlong-stream, StreamWent-joins, StreamWent-none}
+pub use Rattle.buffer_redux.specs.UnbufferLaws.{HandsOutInOrder-joins, HandsOutInOrder-none, ReadsAlong-stream, StreamWent-joins, StreamWent-none}
 pub use Rattle.chunked.specs.declared.error.Malformed.{Malformed}
 pub use Rattle.chunked.specs.declared.place.Place.{Place as BodyPlace}
 pub use Rattle.buffer_redux.specs.WriteParts.{WritesParts}
@@ -20,15 +21,15 @@ pub use Rattle.codec.specs.PiecesWentLaws.{PiecesWent-stream, PiecesWent-unasked
 pub use Rattle.messages.specs.Heads.{heads, IsHead}
 pub use Rattle.messages.specs.HeadsLaws.{heads_lawful, never_cut}
 pub use Rattle.messages.specs.Limits.{usual}
-pub use Rattle.messages.specs.Messages.{Begun, body_error, body_rules, BodyCoding, coding_of, Enters, FailsToFinish, FinishesBody, InBody, InsideGoes, IsMessage, Message, Reader, TellsWhy, WhyNone}
-pub use Rattle.messages.specs.MessagesLaws.{Begun-message, Begun-went, InsideGoes-joins, InsideGoes-none, one_ahead, whole_body}
+pub use Rattle.messages.specs.Messages.{Begun, body_error, body_rules, BodyCoding, coding_of, Enters, FailsToFinish, FinishesBody, InBody, InsideGoes, IsMessage, Message, Reader, room_of, TellsWhy, WhyNone}
+pub use Rattle.messages.specs.MessagesLaws.{Begun-message, Begun-went, InsideGoes-joins, InsideGoes-none, one_ahead, same_room, whole_body}
 pub use Rattle.messages.specs.declared.bad_head.BadHead.{BadHead}
 pub use Rattle.messages.specs.declared.error.BodyError.TheVariants.{Io, Truncated, Wrong}
 pub use Rattle.messages.specs.declared.head.Heads.{Heads}
 pub use Rattle.messages.specs.declared.head.ParsedHead.{ParsedHead}
 pub use Rattle.redux_buffer.specs.Faults.{FaultAfterInterrupts, FaultAfterInterrupts-after, OnlyInterrupts, OnlyInterrupts-joins, OnlyInterrupts-none, OnlyInterrupts-one}
-pub use Rattle.requests.specs.Answers.{AnswersEach, AnswersWhole, AsksFew, AwaitsBody, CallsFor, Closes, Continues, EndedBeforeHead, ending_of, ends_of, EndsUntaken, FailsInRead, FailsOn, FailsToRead, faults_of, IsClosed, IsLastTurn, IsMany, IsPartTaken, IsToBeRefused, MayFollow, NoMoreAnswered, only_line_ends, ReadsSome, ReadsSteadily, Refuses, RunEndsBy, RunsToLast, sending_of, sent_till, sent_with, stream_at, stream_in, TakeFails, TakesWhole}
-pub use Rattle.requests.specs.Large.{is_large, IsAwaited, max_payload, TurnsLarge}
+pub use Rattle.requests.specs.Answers.{AnswersEach, AnswersWhole, AsksFew, AwaitsBody, AwaitsHead, CallsFor, Closes, Continues, EndedBeforeHead, ending_of, ends_of, EndsUntaken, FailsInRead, faults_of, IsClosed, IsLastTurn, IsMany, IsPartTaken, IsToBeRefused, KeepsRoom, MayFollow, NoMoreAnswered, only_line_ends, ReadsSome, ReadsSteadily, Refuses, RunEndsBy, RunsToLast, sending_of, sent_till, sent_with, stream_at, stream_in, TakeFails, TakesWhole}
+pub use Rattle.requests.specs.Large.{AwaitsMore, is_large, IsAwaited, max_payload, TurnsLarge}
 pub use Rattle.requests.specs.Sending.{AsksUnsettled, Both, IsHeld, IsStep, IsUnsettled, Prompt, SendsForRoom, SendsUnless, StepsAlong}
 pub use Rattle.requests.specs.Texts.{answered, called, early_refusal, is_called, is_known, refusal, refusal_of, waits}
 pub use Rattle.requests.specs.declared.Ending.{Ending}

@@ -1,8 +1,7 @@
 -- What reads of a run met.
-use Rattle.std.proofs.Common.{◌≡◌, ◌≢◌, ℕ, ◌+◌, ◌≤◌, true, false, List, [], ◌∷◌, ◌++◌, All, length, Option, None, Some, IfSome, Result, Ok, Err, IfOk, IfErr, sym, ap, subst, inl, inr, ◌∙◌, refl, arith, append_assoc, append-nil, length-append}
-use Rattle.requests.proofs.Names.{All-append, All-nil, AskedWhere, AsksFew, BadHead, Before, Begun, Begun-went, body_error, body_rules, BodyCoding, BodyPlace, Breaks, Closes, coding_of, EndedBeforeHead, ends_of, EndsEarly, Enters, Error, FailsInRead, FailsOn, FailsToFinish, FailsToRead, FaultAfterInterrupts, FaultAfterInterrupts-after, faults_of, FinishesBody, handed_of, Heads, heads, InBody, Inside, InsideGoes, Io, IsBodyReader, IsClosed, IsHead, IsMany, IsOpen, IsPartTaken, IsToBeRefused, LeadsOpen, left_of, Malformed, MayFollow, Message, MetEnd, MetEnd-once, NextAnswer, NextAnswers, NextPiece, NoEnd, NoFault, NoMoreAnswered, NoPayload, OnlyInterrupts, OnlyInterrupts-joins, OnlyInterrupts-none, OnlyInterrupts-one, PiecesWent-stream, Place, Reader, ReaderState, ReadsAlong-stream, ReadsPayload, ReadsSome, ReadsSteadily, Refusal, sent_with, Side, std_read_rules, stream_in, StreamWent, StreamWent-joins, TakeFails, TellsWhy, TookWholeBody, Unbuffered, unbuffered, Untaken, usual, WhyNone}
-use Rattle.body_reader.specs.BetweenLaws.{AsksWithRoom-open, EachGave-same, StopsFor-after}
-use Rattle.body_reader.specs.BodyReader.{taken_count}
+use Rattle.std.proofs.Common.{◌≡◌, ◌≢◌, ℕ, ◌+◌, ◌≤◌, true, false, List, [], ◌∷◌, ◌++◌, All, length, Option, None, Some, Result, Ok, Err, IfOk, IfErr, sym, ap, subst, inl, inr, ◌∙◌, refl, arith, append_assoc, append-nil, length-append}
+use Rattle.requests.proofs.Names.{All-append, All-nil, AskedWhere, AsksFew, BadHead, BadRequest, Begun, Begun-went, body_error, body_rules, BodyCoding, BodyPlace, Breaks, Closes, coding_of, ends_of, Enters, Error, FailsInRead, FailsToFinish, FaultAfterInterrupts, FaultAfterInterrupts-after, faults_of, FinishesBody, handed_of, Heads, heads, InBody, Inside, InsideGoes, Io, IsBodyReader, IsHead, IsMany, IsOpen, IsPartTaken, IsToBeRefused, LeadsOpen, left_of, Malformed, MayFollow, Message, MetEnd, MetEnd-once, NextAnswer, NextAnswers, NextPiece, NoEnd, NoFault, NoPayload, OnlyInterrupts, OnlyInterrupts-joins, OnlyInterrupts-none, OnlyInterrupts-one, PiecesWent-stream, Reader, ReaderState, ReadsAlong-stream, ReadsPayload, ReadsSome, ReadsSteadily, Side, std_read_rules, stream_in, StreamWent, StreamWent-joins, TakeFails, TellsWhy, TookWholeBody, Truncated, Unbuffered, unbuffered, Untaken, usual, WhyNone, Wrong}
+use Rattle.body_reader.specs.BetweenLaws.{AsksWithRoom-open}
 use Rattle.body_reader.specs.BodyReaderLaws.{BodyWent-leads}
 use Rattle.body_reader.specs.Coding.{Agree, heeded}
 use Rattle.body_reader.specs.CodingLaws.{Agree-less, heeded_front, LeadsOpen-behind}
@@ -90,7 +89,7 @@ pub no_shorter : {a b : List Error} → OnlyInterrupts a b → length a ≤ leng
 no_shorter {a} {b} reads = omega (arith, ap length reads.faults, length-append a reads.interrupts)
 
 -- none may follow the last of more messages
-Closes-after : (ms ns : List Message) → All (MayFollow true) ms → Closes ns → Closes (ms ++ ns)
+pub Closes-after : (ms ns : List Message) → All (MayFollow true) ms → Closes ns → Closes (ms ++ ns)
 Closes-after ms ns keep closes = record {
   before = ms ++ closes.before;
   last = closes.last;
@@ -118,38 +117,6 @@ module _ {S : Type 0} {s m : Unbuffered S} (steady : ReadsSteadily s m) where
     asks = AsksFew-after more.asks;
   }
 
-  pub IsToBeRefused-still : (place : Place S) (why : Refusal) → IsToBeRefused m place why → IsToBeRefused s place why
-  IsToBeRefused-still (Before requests) why (inl none) = inl none
-  IsToBeRefused-still (Before requests) why (inr (is, more, some, cut)) =
-      inr (is, omega (arith, steady.ends, more), some, cut)
-  IsToBeRefused-still (Inside body) why (inl (is, inl torn)) = inl (is, inl torn)
-  IsToBeRefused-still (Inside body) why (inl (is, inr (more, cut))) = inl (is, inr (omega (arith, steady.ends, more), cut))
-  IsToBeRefused-still (Inside body) why (inr large) = inr large
-
-  pub each_wrong : (place : Place S) (refuses : Option Refusal) → IfSome refuses (IsToBeRefused m place)
-      → IfSome refuses (IsToBeRefused s place)
-  each_wrong place (Some why) wrong = IsToBeRefused-still place why wrong
-  each_wrong place None none = tt
-
-  EndedBeforeHead-still : (place : Place S) → EndedBeforeHead m place → EndedBeforeHead s place
-  EndedBeforeHead-still (Before requests) (more, none) = (omega (arith, steady.ends, more), none)
-  EndedBeforeHead-still (Inside body) odd = odd
-
-  pub IsClosed-still : (ms ns : List Message) (taken : List ℕ) (refuses : Option Refusal) (place : Place S)
-      → All (MayFollow true) ms → IsClosed ns taken refuses m place → IsClosed (ms ++ ns) taken refuses s place
-  IsClosed-still ms ns taken refuses place keep (closes, none, not, ends) =
-      (Closes-after ms ns keep closes, none, not, ends ∙ steady.ends)
-
-  pub NoMoreAnswered-still : (ms ns : List Message) (taken : List ℕ) (refuses : Option Refusal) (place : Place S)
-      → All (MayFollow true) ms
-      → NoMoreAnswered ns taken refuses m place → NoMoreAnswered (ms ++ ns) taken refuses s place
-  NoMoreAnswered-still ms ns taken refuses place keep (inl closed) =
-      inl (IsClosed-still ms ns taken refuses place keep closed)
-  NoMoreAnswered-still ms ns taken refuses place keep (inr (more, inl is)) =
-      inr (All-append (MayFollow true) ms ns keep more, inl is)
-  NoMoreAnswered-still ms ns taken refuses place keep (inr (more, inr ended)) =
-      inr (All-append (MayFollow true) ms ns keep more, inr (EndedBeforeHead-still place ended))
-
   pub FailsInRead-still : (e : Error) (t : Unbuffered S) → FailsInRead m e t → FailsInRead s e t
   FailsInRead-still e t (fault, hard) =
       (FaultAfterInterrupts-after (faults_of s) (faults_of m) (faults_of t) e steady.faults fault, hard)
@@ -158,74 +125,35 @@ module _ {S : Type 0} {s m : Unbuffered S} (steady : ReadsSteadily s m) where
       → IsMany (more + count) s t
   IsMany-still more count t met many = omega (arith, many, no_shorter steady.faults, no_shorter met)
 
--- why a read in a body failed is why the whole isn't taken
-module _ {S : Type 0} {s : Unbuffered S} (a b : InBody S) (steady : ReadsSteadily s (stream_in a)) where
-  none_comes : (place : Side ℕ BodyPlace) (why : WhyNone)
-      → ((e : Error) → body_error place why ≡ Io e → error_kind e ≢ Interrupted) → AsksFew s (stream_in b)
-      → NoPayload (body_rules b.body.coding) a.body why b.body → TakeFails s (Body (body_error place why)) b
-  none_comes place (unread.Wrong (side.First none) right) hard few fails = (
-    few,
-    joined steady (stream_in b) (none_met fails.1.faults),
-    inl (refl, inl (side.First none, fails.2)),
+  pub TakeFails-after : (e : Untaken) (b : InBody S) → TakeFails m e b → TakeFails s e b
+  TakeFails-after (Body (Io e)) b (few, fails) = (AsksFew-after few, FailsInRead-still e (stream_in b) fails)
+  TakeFails-after (Body (Wrong why)) b (few, met, torn) = (
+    AsksFew-after few,
+    joined (stream_in b) met,
+    subst (λ n. IsToBeRefused n (Inside b) BadRequest) steady.ends torn,
   )
-  none_comes place (unread.Wrong (side.Second name) right) hard few fails = (
-    few,
-    joined steady (stream_in b) (none_met fails.1.faults),
-    inl (refl, inl (side.Second name, fails.2)),
+  TakeFails-after (Body (Truncated due)) b (few, met, torn) = (
+    AsksFew-after few,
+    joined (stream_in b) met,
+    subst (λ n. IsToBeRefused n (Inside b) BadRequest) steady.ends torn,
   )
-  none_comes (side.First due) (unread.Truncated right) hard few fails = (
-    few,
-    joined steady (stream_in b) (none_met fails.1.0),
-    inl (refl, inr (omega (arith, steady.ends, fails.1.1), fails.2)),
-  )
-  none_comes (side.Second q) (unread.Truncated right) hard few fails = (
-    few,
-    joined steady (stream_in b) (none_met fails.1.0),
-    inl (refl, inr (omega (arith, steady.ends, fails.1.1), fails.2)),
-  )
-  none_comes place (unread.Io e) hard few fails = (
-    few,
-    (failed_behind (faults_of s) (faults_of (stream_in a)) (faults_of (stream_in b)) e steady.faults fails.0.0, hard e refl),
-  )
+  TakeFails-after Large b (reads, large) = (steadily reads, large)
+  TakeFails-after (Unsent e) b reads = steadily reads
+  TakeFails-after Many b (reads, many) =
+      (steadily reads, omega (arith, many, no_shorter steady.faults, no_shorter reads.faults))
 
-  pub TakeFails-of : (e : Untaken) → FailsOn a e b → TakeFails s e b
-  TakeFails-of (Body e) (why, told, none, hard, few) = subst (λ x. TakeFails s (Body x) b) (sym told)
-      (none_comes b.body.place why (λ x is. hard x (told ∙ is)) (AsksFew-after steady few) none)
-  TakeFails-of (Unsent e) same = steadily steady (steady_same (stream_in a) (stream_in b) same)
-  TakeFails-of Large odd = elim odd [ ]
-  TakeFails-of Many odd = elim odd [ ]
+  pub fails_after : (answer : Result ℕ Untaken) (b : InBody S) → IfErr answer (λ e. TakeFails m e b)
+      → IfErr answer (λ e. TakeFails s e b)
+  fails_after (Ok n) b fails = tt
+  fails_after (Err e) b fails = TakeFails-after e b fails
 
--- what is said of a read of it is so since the stream was asked last
-module _ {S : Type 0} (a m t : InBody S) (same : (stream_in m).log ≡ (stream_in a).log) where
-  pub reads_since : (answer : Result ℕ Untaken) → IfOk answer (λ n. ReadsSome (stream_in m) n t)
-      → IfOk answer (λ n. ReadsSome (stream_in a) n t)
-  reads_since (Ok n) r = record {
-    steady = steadily (steady_same (stream_in a) (stream_in m) same) r.steady;
-    more = elim r.more [ inl ended ↦ inl ended | inr some ↦ inr (omega (arith, some, ap (λ l. length l.reads.faults) same)) ];
+  pub reads_after : (answer : Result ℕ Untaken) (b : InBody S) → IfOk answer (λ n. ReadsSome m n b)
+      → IfOk answer (λ n. ReadsSome s n b)
+  reads_after (Ok n) b r = record {
+    steady = steadily r.steady;
+    more = elim r.more [ inl ended ↦ inl ended | inr some ↦ inr (omega (arith, some, no_shorter steady.faults)) ];
   }
-  reads_since (Err e) r = tt
-
-  pub fails_since : (answer : Result ℕ Untaken) → IfErr answer (λ e. FailsToRead m e t) → IfErr answer (λ e. FailsOn a e t)
-  fails_since (Ok n) f = tt
-  fails_since (Err (Body e)) (why, told, none, hard, few) = (
-    why,
-    told,
-    StopsFor-after (taken_count t.body) (λ x. Breaks (body_rules t.body.coding) x t.body)
-        (EndsEarly (body_rules t.body.coding) t.body) a.body.reader m.body.reader t.body.reader
-        (EachGave-same a.body.reader m.body.reader same) why none,
-    hard,
-    AsksFew-after (steady_same (stream_in a) (stream_in m) same) few,
-  )
-  fails_since (Err (Unsent e)) f = elim f [ ]
-  fails_since (Err Large) f = elim f [ ]
-  fails_since (Err Many) f = elim f [ ]
-
-  pub sent_so : (answer : Result ℕ Untaken) → IfErr answer (λ e. FailsToRead m e t) → sent_with answer ≡ Ok tt
-  sent_so (Ok n) f = refl
-  sent_so (Err (Body e)) f = refl
-  sent_so (Err (Unsent e)) f = elim f [ ]
-  sent_so (Err Large) f = elim f [ ]
-  sent_so (Err Many) f = elim f [ ]
+  reads_after (Err e) b r = tt
 
 -- calls in a body, as those of its stream
 pub inside_went : {S : Type 0} {remaining : S → Option (List ℕ)} {b t : InBody S} {handed : List ℕ}
@@ -297,15 +225,27 @@ module _ {S : Type 0} (remaining : S → Option (List ℕ)) (s t : InBody S) (ou
       (omega (arith, fails.0.1, ap length fails.0.0, length-append (faults_of (stream_in s)) (e ∷ [])))
       (omega (arith, fails.0.1))
 
+  -- why it failed is why the whole isn't taken
+  none_comes : (place : Side ℕ BodyPlace) (why : WhyNone)
+      → ((e : Error) → body_error place why ≡ Io e → error_kind e ≢ Interrupted) → AsksFew (stream_in s) (stream_in t)
+      → NoPayload (body_rules t.body.coding) s.body why t.body → TakeFails (stream_in s) (Body (body_error place why)) t
+  none_comes place (unread.Wrong (side.First none) right) hard few fails =
+      (few, none_met fails.1.faults, inl (refl, inl (side.First none, fails.2)))
+  none_comes place (unread.Wrong (side.Second name) right) hard few fails =
+      (few, none_met fails.1.faults, inl (refl, inl (side.Second name, fails.2)))
+  none_comes (side.First due) (unread.Truncated right) hard few fails =
+      (few, none_met fails.1.0, inl (refl, inr (omega (arith, fails.1.1), fails.2)))
+  none_comes (side.Second q) (unread.Truncated right) hard few fails =
+      (few, none_met fails.1.0, inl (refl, inr (omega (arith, fails.1.1), fails.2)))
+  none_comes place (unread.Io e) hard few fails =
+      (few, (failed_behind _ _ _ e (OnlyInterrupts-none (faults_of (stream_in s))) fails.0.0, hard e refl))
+
   pub read_fails : (e : BodyError) → Reads (Err e) → ((fault : Error) → e ≡ Io fault → error_kind fault ≢ Interrupted)
-      → FailsToRead s (Body e) t
-  read_fails e (why, told, reads) hard = (
-    why,
-    told,
-    subst (λ c. NoPayload (body_rules c) s.body why t.body) (sym reads.went.coding) reads.answers,
-    hard,
-    none_few why reads.answers (read_asked (Err e) (why, told, reads)),
-  )
+      → TakeFails (stream_in s) (Body e) t
+  read_fails e (why, told, reads) hard = subst (λ x. TakeFails (stream_in s) (Body x) t) (sym told)
+      (none_comes t.body.place why (λ x is. hard x (told ∙ is))
+      (none_few why reads.answers (read_asked (Err e) (why, told, reads)))
+      (subst (λ c. NoPayload (body_rules c) s.body why t.body) (sym reads.went.coding) reads.answers))
 
   -- it was interrupted
   pub read_again : (told : BodyError) (e : Error) → Reads (Err told) → told ≡ Io e → IsInterrupt e

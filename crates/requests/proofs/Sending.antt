@@ -1,36 +1,25 @@
 -- What is written and sent, one after another.
-use Rattle.std.proofs.Common.{◌≡◌, ℕ, ◌⊎◌, List, [], ◌∷◌, ◌++◌, length, Result, Ok, Err, OnOk, sym, ap, subst, inl, inr, ◌∙◌, refl, arith, append_assoc, append-nil, length-append}
-use Rattle.requests.proofs.Names.{AskedOver, AsksUnsettled, Both, Buffered, cases_lt, Error, HandsOutInOrder, IsHeld, IsStep, IsUnsettled, nil_from_length, Prompt, SendsForRoom, SendsUnless, StdPolicy, StepsAlong, StreamLog, Unbuffered, WritesParts}
+use Rattle.std.proofs.Common.{◌≡◌, ℕ, ◌⊎◌, List, [], ◌∷◌, ◌++◌, length, Result, Ok, Err, OnOk, sym, ap, subst, inl, inr, refl, arith, length-append}
+use Rattle.requests.proofs.Names.{AskedOver, AskedOver-on, AsksUnsettled, Both, Buffered, cases_lt, Error, HandsOutInOrder, HandsOutInOrder-joins, HandsOutInOrder-none, IsHeld, IsStep, IsUnsettled, nil_from_length, Prompt, SendsForRoom, SendsUnless, StdPolicy, StepsAlong, StreamLog, Unbuffered, WritesParts}
 use Rattle.buffer_redux.specs.Block.{usable}
 
 -- steps behind others, from where the stream had handed these bytes out: what is open then is so behind those
-module _ {R W : Type 0} (tells : W → StreamLog) (trace : W → W → Type 0) (P Q : List ℕ → Type 0) (a m : Both R W)
+module _ {R W : Type 0} (tells : W → StreamLog) (trace : W → W → Type 0) (P Q : List ℕ → List ℕ → Type 0) (a m : Both R W)
     {bytes : List ℕ} (order : HandsOutInOrder a.0 bytes m.0)
-    (so : (more : List ℕ) → P (m.0.left ++ more) → Q (bytes ++ (m.0.left ++ more))) where
-  open_on : (came : List ℕ) → P (m.0.left ++ came) → Q (a.0.left ++ (order.got ++ came))
-  open_on came is = subst Q
-      (sym (append_assoc bytes m.0.left came) ∙ ap (λ l. l ++ came) order.equal ∙ append_assoc a.0.left order.got came)
-      (so came is)
-
-  given_on : (given behind : List ℕ) → given ≡ m.0.log.reads.given ++ behind
-      → given ≡ a.0.log.reads.given ++ (order.got ++ behind)
-  given_on given behind is =
-      is ∙ ap (λ l. l ++ behind) order.given ∙ append_assoc a.0.log.reads.given order.got behind
-
+    (so : (front behind : List ℕ) → P front behind → Q (bytes ++ front) behind) where
   asks_on : (s t : Unbuffered R) → AsksUnsettled P m.0 s t → AsksUnsettled Q a.0 s t
   asks_on s t asked = record {
     hands = asked.hands;
-    asks = asked.asks;
-    came = order.got ++ asked.came;
-    given = given_on t.log.reads.given (asked.came ++ t.log.reads.latest) asked.given
-        ∙ ap (λ l. a.0.log.reads.given ++ l) (sym (append_assoc order.got asked.came t.log.reads.latest));
-    open' = open_on asked.came asked.open';
+    front = bytes ++ asked.front;
+    before = HandsOutInOrder-joins a.0 m.0 s bytes asked.front order asked.before;
+    asked = AskedOver-on (P asked.front) (Q (bytes ++ asked.front)) s s t [] (HandsOutInOrder-none s) (omega arith)
+        (omega arith) (λ more is. so asked.front (s.left ++ more) is) asked.asked;
   }
 
   unsettled_on : (s : Unbuffered R) → IsUnsettled P m.0 s → IsUnsettled Q a.0 s
   unsettled_on s (inl none) = inl none
-  unsettled_on s (inr (came, given, is)) =
-      inr (order.got ++ came, given_on s.log.reads.given came given, open_on came is)
+  unsettled_on s (inr (front, before, is)) =
+      inr (bytes ++ front, HandsOutInOrder-joins a.0 m.0 s bytes front order before, so front s.left is)
 
   IsStep-on : (x y : Both R W) (answer : Result (Unit {0}) Error) → IsStep tells trace P m.0 x answer y
       → IsStep tells trace Q a.0 x answer y
@@ -48,18 +37,13 @@ module _ {R W : Type 0} (tells : W → StreamLog) (trace : W → W → Type 0) (
       (StepsAlong-joins x (Ok tt) first earlier p before, IsStep-on x b answer step)
 
 -- a stream that was asked was so from here on
-asks_here : {R : Type 0} (Open : List ℕ → Type 0) {bytes : List ℕ} (s t : Unbuffered R) → HandsOutInOrder s bytes t
-    → AskedOver Open s t → AsksUnsettled Open s s t
-asks_here Open {bytes} s t order over = record {
-  hands = (bytes, order);
-  asks = over.some;
-  came = over.came;
-  given = over.given;
-  open' = over.such;
-}
+asks_here : {R : Type 0} (Open : List ℕ → List ℕ → Type 0) {bytes : List ℕ} (s t : Unbuffered R) → HandsOutInOrder s bytes t
+    → AskedOver (Open []) s t → AsksUnsettled Open s s t
+asks_here Open {bytes} s t order over =
+    record { hands = (bytes, order); front = []; before = HandsOutInOrder-none s; asked = over }
 
 -- what the writer has buffered is all that wasn't sent, still: behind a step, and so behind all of them
-module _ {R W : Type 0} (tells : W → StreamLog) (trace : W → W → Type 0) (Open : List ℕ → Type 0) where
+module _ {R W : Type 0} (tells : W → StreamLog) (trace : W → W → Type 0) (Open : List ℕ → List ℕ → Type 0) where
   step_held : (first : Unbuffered R) (m b : Both R W) (answer : Result (Unit {0}) Error)
       → IsStep tells trace Open first m answer b → IsHeld m.1 → OnOk answer (IsHeld b.1)
   step_held first m b (Ok x) (inl (well, same, how)) held = subst IsHeld (sym same) held
@@ -75,7 +59,7 @@ module _ {R W : Type 0} (tells : W → StreamLog) (trace : W → W → Type 0) (
       step_held a.0 m b answer step (steps_held a m earlier (Ok tt) before held)
 
 module _ {W : Type 0} {tells : W → StreamLog} {trace : W → W → Type 0} where
-  pub Prompt-held : {R : Type 0} {Open : List ℕ → Type 0} {a b : Both R W} (answer : Result (Unit {0}) Error)
+  pub Prompt-held : {R : Type 0} {Open : List ℕ → List ℕ → Type 0} {a b : Both R W} (answer : Result (Unit {0}) Error)
       → Prompt tells trace Open a answer b → IsHeld a.1 → OnOk answer (IsHeld b.1)
   Prompt-held {Open = Open} {a = a} {b = b} answer p = steps_held tells trace Open a b p.between answer p.steps
 
@@ -105,7 +89,7 @@ module _ {W : Type 0} {tells : W → StreamLog} {trace : W → W → Type 0} whe
   SendsForRoom-held answer (inl (lacks, well, same)) held = rw (well, same) held
   SendsForRoom-held answer (inr parts) held = WritesParts-held answer parts held
 
-  module _ {R : Type 0} (Open : List ℕ → Type 0) where
+  module _ {R : Type 0} (Open : List ℕ → List ℕ → Type 0) where
     Prompt-one : (a : Both R W) (sending : Result (Unit {0}) Error) (b : Both R W) → IsStep tells trace Open a.0 a sending b
         → Prompt tells trace Open a sending b
     Prompt-one a sending b step = record { between = a ∷ []; steps = ((refl, refl), step) }
@@ -122,7 +106,7 @@ module _ {W : Type 0} {tells : W → StreamLog} {trace : W → W → Type 0} whe
 
     -- what was held was sent, where the stream is to be asked, and then that was asked
     pub Prompt-asked : {P : Type 0} (s t : Unbuffered R) {bytes : List ℕ} (w v : Buffered W StdPolicy)
-        → HandsOutInOrder s bytes t → SendsUnless tells trace P w (Ok tt) v → ((¬ P) → AskedOver Open s t)
+        → HandsOutInOrder s bytes t → SendsUnless tells trace P w (Ok tt) v → ((¬ P) → AskedOver (Open []) s t)
         → (P → t.log ≡ s.log) → Prompt tells trace Open (s, w) (Ok tt) (t, v)
     Prompt-asked s t w v order (inl (settled, well, same)) asked still = rw same (Prompt-read w order (still settled))
     Prompt-asked s t w v order (inr (unsettled, inl (all, well, same))) asked still =
@@ -132,21 +116,21 @@ module _ {W : Type 0} {tells : W → StreamLog} {trace : W → W → Type 0} whe
 
     -- that failed, and the stream wasn't asked
     pub Prompt-unsent : {P : Type 0} (s : Unbuffered R) (w v : Buffered W StdPolicy) (e : Error)
-        → SendsUnless tells trace P w (Err e) v → ((¬ P) → (s.left ≡ []) ⊎ Open s.left)
+        → SendsUnless tells trace P w (Err e) v → ((¬ P) → (s.left ≡ []) ⊎ Open [] s.left)
         → Prompt tells trace Open (s, w) (Err e) (s, v)
     Prompt-unsent s w v e (inl (settled, well, same)) open' = absurd (cc)
     Prompt-unsent s w v e (inr (unsettled, inl (all, well, same))) open' = absurd (cc)
     Prompt-unsent s w v e (inr (unsettled, inr (some, flushed))) open' =
         let there : IsUnsettled Open s s = elim (open' unsettled) [
           | inl none ↦ inl none
-          | inr is ↦ inr ([], sym (append-nil s.log.reads.given), subst Open (sym (append-nil s.left)) is)
+          | inr is ↦ inr ([], HandsOutInOrder-none s, is)
         ] in
         Prompt-one (s, w) (Err e) (s, v) (inr (some, flushed, (there, refl)))
 
   -- more of that behind what the stream had handed out
-  pub Prompt-on : {R : Type 0} (P Q : List ℕ → Type 0) (a m b : Both R W) {bytes : List ℕ} (sending : Result (Unit {0}) Error)
-      → HandsOutInOrder a.0 bytes m.0
-      → ((more : List ℕ) → P (m.0.left ++ more) → Q (bytes ++ (m.0.left ++ more)))
+  pub Prompt-on : {R : Type 0} (P Q : List ℕ → List ℕ → Type 0) (a m b : Both R W) {bytes : List ℕ}
+      (sending : Result (Unit {0}) Error) → HandsOutInOrder a.0 bytes m.0
+      → ((front behind : List ℕ) → P front behind → Q (bytes ++ front) behind)
       → Prompt tells trace Q a (Ok tt) m → Prompt tells trace P m sending b → Prompt tells trace Q a sending b
   Prompt-on P Q a m b sending order so p q = record {
     between = q.between ++ p.between;

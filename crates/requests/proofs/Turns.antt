@@ -1,19 +1,19 @@
 -- Turns, one after another: a message in each.
-use Rattle.std.proofs.Common.{◌≡◌, ◌+◌, true, ℕ, List, [], ◌∷◌, ◌++◌, length, Option, None, Some, Ok, sym, ap, subst, inl, inr, ◌∙◌, arith, append_assoc, length-append, OnOk, Result}
-use Rattle.requests.proofs.Names.{All-append, AnswersEach, AnswersWhole, AwaitsBody, Before, Both, Buffered, CallsFor, Continues, Ending, Error, heads, Inside, IsHeld, IsLastTurn, IsMany, IsOpen, MayFollow, Message, Over, ParsedHead, Place, Prompt, Refusal, Refuses, RunEndsBy, RunsToLast, sending_of, StdPolicy, stream_at, StreamLog, StreamWent, StreamWent-joins, Unbuffered, Unread, usual}
+use Rattle.std.proofs.Common.{◌≡◌, ◌+◌, true, ℕ, List, [], ◌∷◌, ◌++◌, length, Option, None, Some, IfSome, Ok, sym, ap, subst, inl, inr, ◌∙◌, arith, append_assoc, length-append, OnOk, Result}
+use Rattle.requests.proofs.Names.{All-append, AnswersEach, AnswersWhole, AwaitsBody, AwaitsHead, Before, Both, Buffered, CallsFor, Continues, Ending, Error, Inside, IsClosed, IsHeld, IsLastTurn, IsMany, IsToBeRefused, MayFollow, Message, NoMoreAnswered, Over, ParsedHead, Place, Prompt, Refusal, Refuses, RunEndsBy, RunsToLast, sending_of, StdPolicy, stream_at, StreamLog, StreamWent, StreamWent-joins, Unbuffered, Unread}
 use Rattle.requests.specs.declared.Ending.TheVariants as stop
-use Rattle.requests.proofs.Reading.{AsksFew-after, FailsInRead-still, IsClosed-still, IsMany-still, NoMoreAnswered-still, each_wrong, joined}
+use Rattle.requests.proofs.Reading.{AsksFew-after, Closes-after, FailsInRead-still, IsMany-still, joined}
 use Rattle.requests.proofs.Sending.{Prompt-held, Prompt-on, SendsForRoom-held, WritesParts-held}
 
 module _ {R W : Type 0} (remaining : R → Option (List ℕ)) (tells : W → StreamLog)
     (trace : W → W → Type 0) where
   -- where nothing went, the stream was asked for a head
   comes_on : (a c b : Both R W) → StreamWent remaining a.0 [] c.0
-      → Prompt tells trace (IsOpen (heads usual)) a (Ok tt) c
-      → Prompt tells trace (IsOpen (heads usual)) c (Ok tt) b
-      → Prompt tells trace (IsOpen (heads usual)) a (Ok tt) b
+      → Prompt tells trace AwaitsHead a (Ok tt) c
+      → Prompt tells trace AwaitsHead c (Ok tt) b
+      → Prompt tells trace AwaitsHead a (Ok tt) b
   comes_on a c b went =
-      Prompt-on (IsOpen (heads usual)) (IsOpen (heads usual)) a c b (Ok tt) went.order (λ more is. is)
+      Prompt-on AwaitsHead AwaitsHead a c b (Ok tt) went.order (λ front behind is. is)
 
   AnswersWhole-behind : {m : Message} {a c b : Both R W} → AnswersEach remaining tells trace [] a c
       → AnswersWhole remaining tells trace m c (Ok tt) b → AnswersWhole remaining tells trace m a (Ok tt) b
@@ -61,7 +61,7 @@ module _ {R W : Type 0} (remaining : R → Option (List ℕ)) (tells : W → Str
   AnswersEach-held [] a b (went, writes) held = Prompt-held (Ok tt) writes held
   AnswersEach-held (m ∷ ms) a b (c, one, later) held = AnswersEach-held ms c b later (message_held (Ok tt) one held)
 
-  refusal_held : (Open : List ℕ → Type 0) (refuses : Option Refusal) (a b : Both R W) (sending : Result (Unit {0}) Error)
+  refusal_held : (Open : List ℕ → List ℕ → Type 0) (refuses : Option Refusal) (a b : Both R W) (sending : Result (Unit {0}) Error)
       → Refuses remaining tells trace Open refuses a sending b → IsHeld a.1 → OnOk sending (IsHeld b.1)
   refusal_held Open None a b sending writes held = Prompt-held sending writes held
   refusal_held Open (Some why) a b sending (before, writes, parts) held =
@@ -71,7 +71,7 @@ module _ {R W : Type 0} (remaining : R → Option (List ℕ)) (tells : W → Str
       (sending : Result (Unit {0}) Error) → IsLastTurn remaining tells trace last taken place refuses a sending b
       → IsHeld a.1 → OnOk sending (IsHeld b.1)
   turn_held [] taken (Before requests) refuses a b sending (went, part) held =
-      refusal_held (IsOpen (heads usual)) refuses a b sending part held
+      refusal_held AwaitsHead refuses a b sending part held
   turn_held [] taken (Inside body) refuses a b sending (went, inl (none, calls)) held = call_held sending calls held
   turn_held [] taken (Inside body) refuses a b sending (went, inr (begun, calls, behind)) held =
       refusal_held (AwaitsBody body.head body.said) refuses begun b sending behind (call_held (Ok tt) calls held)
@@ -103,7 +103,7 @@ module _ {R W : Type 0} (remaining : R → Option (List ℕ)) (tells : W → Str
         turn = b.turns.turn;
       };
       asks = AsksFew-after a.reads b.asks;
-      wrong = each_wrong a.reads place b.refuses b.wrong;
+      wrong = subst (λ n. IfSome b.refuses (IsToBeRefused n place)) a.reads.ends b.wrong;
       ends = ends ending b.ends;
     }
       where
@@ -111,7 +111,10 @@ module _ {R W : Type 0} (remaining : R → Option (List ℕ)) (tells : W → Str
             → RunEndsBy remaining tells trace s (a.messages ++ b.messages) b.taken b.handed b.refuses place ending
         ends Over (met, is) = (
           joined a.reads (stream_at place) met,
-          NoMoreAnswered-still a.reads a.messages b.messages b.taken b.refuses place a.keep is,
+          elim (subst (λ n. NoMoreAnswered b.messages b.taken b.refuses n place) a.reads.ends is) [
+            | inl closed ↦ inl (Closes-after a.messages b.messages a.keep closed.0, closed.1, closed.2, closed.3)
+            | inr more ↦ inr (All-append (MayFollow true) a.messages b.messages a.keep more.0, more.1)
+          ],
         )
         ends stop.Many (met, keep, not, many) = (
           joined a.reads (stream_at place) met,
@@ -132,6 +135,7 @@ module _ {R W : Type 0} (remaining : R → Option (List ℕ)) (tells : W → Str
           elim follow [
             | inl keep ↦ inl (All-append (MayFollow true) a.messages b.messages a.keep keep)
             | inr closed ↦
-                inr (IsClosed-still a.reads a.messages b.messages b.taken b.refuses place a.keep closed)
+                (let still = subst (λ n. IsClosed b.messages b.taken b.refuses n place) a.reads.ends closed in
+                inr (Closes-after a.messages b.messages a.keep still.0, still.1, still.2, still.3))
           ],
         )

@@ -10,7 +10,7 @@ use Rattle.buffer_redux.specs.StreamLog.{StreamLog}
 use Rattle.buffer_redux.specs.Unbuffer.{StreamWent, Unbuffered, unbuffered}
 use Rattle.buffer_redux.specs.WriteParts.{WritesParts}
 use Rattle.buffer_redux.specs.declared.policy.StdPolicy.{StdPolicy}
-use Rattle.body_reader.specs.BodyReader.{Breaks, EndsEarly, IsBodyReader, NoPayload, TookWholeBody, handed_of}
+use Rattle.body_reader.specs.BodyReader.{Breaks, EndsEarly, IsBodyReader, TookWholeBody, handed_of}
 use Rattle.body_reader.specs.Coding.{IsBody}
 use Rattle.body_reader.specs.declared.either.Side.{Side}
 use Rattle.chunked.specs.declared.error.Malformed.{Malformed}
@@ -22,7 +22,7 @@ use Rattle.messages.specs.declared.head.ParsedHead.{ParsedHead}
 use Rattle.messages.specs.Heads.{IsHead, heads}
 use Rattle.messages.specs.declared.head.Heads.{Heads}
 use Rattle.messages.specs.Limits.{usual}
-use Rattle.messages.specs.Messages.{InBody, IsMessage, Message, WhyNone, body_error, body_rules, coding_of}
+use Rattle.messages.specs.Messages.{InBody, IsMessage, Message, Room, body_rules, coding_of, room_of}
 use Rattle.messages.specs.Versions.{is_end}
 use Rattle.programs.specs.Streams.{EndsOnce}
 use Rattle.requests.specs.declared.writing.Refusal.{Refusal}
@@ -72,32 +72,41 @@ pub record ReadsSteadily {S : Type 0} (s t : Unbuffered S) : Type 0 where
   pub ends : ends_of t ≡ ends_of s
   pub asks : AsksFew s t
 
--- what the stream has left
+-- what it has left
 abbrev pub stream_at : {S : Type 0} → Place S → Unbuffered S
 stream_at (Before requests) = left_of requests
 stream_at (Inside body) = stream_in body
+
+-- and how much its buffer takes
+abbrev pub room_at : {S : Type 0} → Place S → Room
+room_at (Before requests) = room_of requests.reader.block
+room_at (Inside body) = room_of body.body.reader.block
+
+-- so much still, behind a turn or at the end
+abbrev pub KeepsRoom : {S : Type 0} → Room → Result (ReaderState S Heads) (Place S × Ending) → Type 0
+KeepsRoom room result = MatchResult result (λ next. room_of next.reader.block ≡ room) (λ e. room_at e.0 ≡ room)
 
 -- these are ends of lines alone, and so empty lines, which say nothing (RFC 9112, section 2.2)
 abbrev pub only_line_ends : List ℕ → Bool
 only_line_ends bytes = prefix_len is_end bytes == length bytes
 
--- what comes is to be refused so: no head begins what is left, for that reason, or the stream ended in one; or the next byte of
--- the body is wrong, or the stream ended before that was complete, or what was taken of it is too large; or its head settles
--- that, and nothing was taken behind that
-abbrev pub IsToBeRefused : {S : Type 0} → Unbuffered S → Place S → Refusal → Type 0
-IsToBeRefused s (Before requests) why = ((e : BadHead) × (heads usual).wrong (rest requests) e × (why ≡ refusal_of e))
-    ⊎ ((why ≡ BadRequest) × (ends_of s < ends_of (left_of requests)) × (only_line_ends (rest requests) ≡ false)
+-- what comes is to be refused so, where so many ends were met before: no head begins what is left, for that reason, or the stream
+-- ended in one; or the next byte of the body is wrong, or the stream ended before that was complete, or what was taken of it is
+-- too large; or its head settles that, and nothing was taken behind that
+abbrev pub IsToBeRefused : {S : Type 0} → ℕ → Place S → Refusal → Type 0
+IsToBeRefused ends (Before requests) why = ((e : BadHead) × (heads usual).wrong (rest requests) e × (why ≡ refusal_of e))
+    ⊎ ((why ≡ BadRequest) × (ends < ends_of (left_of requests)) × (only_line_ends (rest requests) ≡ false)
     × IsOpen (heads usual) (rest requests))
-IsToBeRefused s (Inside body) why = ((why ≡ BadRequest)
+IsToBeRefused ends (Inside body) why = ((why ≡ BadRequest)
     × (((name : Side (Unit {0}) Malformed) × Breaks (body_rules body.body.coding) name body.body)
-    ⊎ ((ends_of s < ends_of (stream_in body)) × EndsEarly (body_rules body.body.coding) body.body)))
+    ⊎ ((ends < ends_of (stream_in body)) × EndsEarly (body_rules body.body.coding) body.body)))
     ⊎ ((why ≡ LargeBody) × TurnsLarge body)
     ⊎ ((early_refusal (is_known body.head) body.said ≡ Some why) × (body.body.taken ≡ []))
 
 -- the stream ended, and nothing is left but empty lines, where a head would begin
-abbrev pub EndedBeforeHead : {S : Type 0} → Unbuffered S → Place S → Type 0
-EndedBeforeHead s (Before requests) = (ends_of s < ends_of (left_of requests)) × IsTrue (only_line_ends (rest requests))
-EndedBeforeHead s (Inside body) = ⊥
+abbrev pub EndedBeforeHead : {S : Type 0} → ℕ → Place S → Type 0
+EndedBeforeHead ends (Before requests) = (ends < ends_of (left_of requests)) × IsTrue (only_line_ends (rest requests))
+EndedBeforeHead ends (Inside body) = ⊥
 
 -- whether another message may follow this one, as its head says
 abbrev pub MayFollow : Bool → Message → Type 0
@@ -113,14 +122,14 @@ pub record Closes (messages : List Message) : Type 0 where
 
 -- none may follow the last message: nothing was taken behind it and nothing is refused, and no end was met, as who asks there may
 -- meet one
-abbrev pub IsClosed : {S : Type 0} → List Message → List ℕ → Option Refusal → Unbuffered S → Place S → Type 0
-IsClosed messages taken refuses s place =
-    Closes messages × (taken ≡ []) × (refuses ≡ None) × (ends_of (stream_at place) ≡ ends_of s)
+abbrev pub IsClosed : {S : Type 0} → List Message → List ℕ → Option Refusal → ℕ → Place S → Type 0
+IsClosed messages taken refuses ends place =
+    Closes messages × (taken ≡ []) × (refuses ≡ None) × (ends_of (stream_at place) ≡ ends)
 
 -- why no more is answered: none may follow; or what comes was refused, or the stream ended
-abbrev pub NoMoreAnswered : {S : Type 0} → List Message → List ℕ → Option Refusal → Unbuffered S → Place S → Type 0
-NoMoreAnswered messages taken refuses s place = IsClosed messages taken refuses s place
-    ⊎ (All (MayFollow true) messages × (IsSome refuses ⊎ EndedBeforeHead s place))
+abbrev pub NoMoreAnswered : {S : Type 0} → List Message → List ℕ → Option Refusal → ℕ → Place S → Type 0
+NoMoreAnswered messages taken refuses ends place = IsClosed messages taken refuses ends place
+    ⊎ (All (MayFollow true) messages × (IsSome refuses ⊎ EndedBeforeHead ends place))
 
 -- these bytes behind whole messages are none, or a head, and of the body that it says some with this payload
 abbrev pub IsPartTaken : {S : Type 0} → Place S → List ℕ → List ℕ → Type 0
@@ -142,23 +151,13 @@ pub record ReadsSome {S : Type 0} (s : Unbuffered S) (n : ℕ) (b : InBody S) : 
   pub steady : ReadsSteadily s (stream_in b)
   pub more : TookWholeBody (body_rules b.body.coding) b.body ⊎ (length (faults_of s) < n + length (faults_of (stream_in b)))
 
--- why none was: none comes, and the read wasn't interrupted
-abbrev pub FailsToRead : {S : Type 0} → InBody S → Untaken → InBody S → Type 0
-FailsToRead s (Body e) b = (why : WhyNone) × (e ≡ body_error b.body.place why)
-    × NoPayload (body_rules b.body.coding) s.body why b.body × ((fault : Error) → e ≡ Io fault → error_kind fault ≢ Interrupted)
-    × AsksFew (stream_in s) (stream_in b)
-FailsToRead s e b = ⊥
-
--- so; or what was held wasn't sent, and nothing asked for
-abbrev pub FailsOn : {S : Type 0} → InBody S → Untaken → InBody S → Type 0
-FailsOn s (Unsent e) b = (stream_in b).log ≡ (stream_in s).log
-FailsOn s e b = FailsToRead s e b
-
--- why a body isn't taken whole: so, or it is wrong, or too large, or more than is counted
+-- why a body isn't taken whole: a read failed, or it is wrong, or too large, or what is held wasn't sent, or it is more than is
+-- counted
 abbrev pub TakeFails : {S : Type 0} → Unbuffered S → Untaken → InBody S → Type 0
 TakeFails s (Body (Io e)) b = AsksFew s (stream_in b) × FailsInRead s e (stream_in b)
 TakeFails s (Body wrong) b =
-    AsksFew s (stream_in b) × OnlyInterrupts (faults_of s) (faults_of (stream_in b)) × IsToBeRefused s (Inside b) BadRequest
+    AsksFew s (stream_in b) × OnlyInterrupts (faults_of s) (faults_of (stream_in b))
+    × IsToBeRefused (ends_of s) (Inside b) BadRequest
 TakeFails s Large b = ReadsSteadily s (stream_in b) × TurnsLarge b
 TakeFails s (Unsent e) b = ReadsSteadily s (stream_in b)
 TakeFails s Many b = ReadsSteadily s (stream_in b) × IsMany (length (handed_of b.body)) s (stream_in b)
@@ -203,9 +202,13 @@ EndsSent tells trace stop.Many w answer w' = (sending : Result (Unit {0}) Error)
 EndsSent tells trace (Unread e) w answer w' = (answer ≡ Err e) × (w' ≡ w)
 EndsSent tells trace (stop.Unsent e) w answer w' = (answer ≡ Err e) × (w' ≡ w)
 
--- more of the body behind this head is to be asked for: neither the head nor these bytes of the body settle an answer
-abbrev pub AwaitsBody : List ℕ → ParsedHead → List ℕ → Type 0
-AwaitsBody head said bytes = (early_refusal (is_known head) said ≡ None) × IsAwaited said.extent bytes
+-- more of a head is to be asked for: these bytes settle none
+abbrev pub AwaitsHead : List ℕ → List ℕ → Type 0
+AwaitsHead front behind = IsOpen (heads usual) (front ++ behind)
+
+-- more of the body behind this head is: neither the head nor these bytes of the body settle an answer
+abbrev pub AwaitsBody : List ℕ → ParsedHead → List ℕ → List ℕ → Type 0
+AwaitsBody head said front behind = (early_refusal (is_known head) said ≡ None) × IsAwaited said.extent front behind
 
 module _ {R W : Type 0} (remaining : R → Option (List ℕ)) (tells : W → StreamLog) (trace : W → W → Type 0) where
   -- a head went, and nothing was asked for once it was whole; and then its body was called for, where the client waits, or that
@@ -214,7 +217,7 @@ module _ {R W : Type 0} (remaining : R → Option (List ℕ)) (tells : W → Str
       : Type 0 where
     pub went : StreamWent remaining a.0 head b.0
     pub before : Buffered W StdPolicy
-    pub comes : Prompt tells trace (IsOpen (heads usual)) a (Ok tt) (b.0, before)
+    pub comes : Prompt tells trace AwaitsHead a (Ok tt) (b.0, before)
     pub call : SendsForRoom tells trace before (called (is_called (is_known head) said)) putting b.1
 
   -- this message went, whose head settles no refusal of it; its body was called for, and then asked for till it was whole; and
@@ -234,11 +237,11 @@ module _ {R W : Type 0} (remaining : R → Option (List ℕ)) (tells : W → Str
 
   -- each of these went and was answered so, before a byte of the next was taken
   abbrev pub AnswersEach : List Message → Both R W → Both R W → Type 0
-  AnswersEach [] a b = StreamWent remaining a.0 [] b.0 × Prompt tells trace (IsOpen (heads usual)) a (Ok tt) b
+  AnswersEach [] a b = StreamWent remaining a.0 [] b.0 × Prompt tells trace AwaitsHead a (Ok tt) b
   AnswersEach (m ∷ later) a b = (c : Both R W) × AnswersWhole m a (Ok tt) c × AnswersEach later c b
 
   -- so much was asked for, or sending what is held failed; or then this was refused, or that failed
-  abbrev pub Refuses : (List ℕ → Type 0) → Option Refusal → Both R W → Result (Unit {0}) Error → Both R W → Type 0
+  abbrev pub Refuses : (List ℕ → List ℕ → Type 0) → Option Refusal → Both R W → Result (Unit {0}) Error → Both R W → Type 0
   Refuses Open None a sending b = Prompt tells trace Open a sending b
   Refuses Open (Some why) a sending b = (before : Buffered W StdPolicy)
       × Prompt tells trace Open a (Ok tt) (b.0, before) × WritesParts tells trace before (refusal why false) sending b.1
@@ -246,7 +249,7 @@ module _ {R W : Type 0} (remaining : R → Option (List ℕ)) (tells : W → Str
   -- no message went whole, where the reader stands there: a head is asked for, and it is refused at once; or it came, and its
   -- body is called for, and then asked for, and that is refused at once; or the call failed
   abbrev pub AnswersPart : Place R → Option Refusal → Both R W → Result (Unit {0}) Error → Both R W → Type 0
-  AnswersPart (Before requests) refuses a sending b = Refuses (IsOpen (heads usual)) refuses a sending b
+  AnswersPart (Before requests) refuses a sending b = Refuses AwaitsHead refuses a sending b
   AnswersPart (Inside body) refuses a sending b = ((refuses ≡ None) × CallsFor body.head body.said a sending b)
       ⊎ ((begun : Both R W) × CallsFor body.head body.said a (Ok tt) begun
       × Refuses (AwaitsBody body.head body.said) refuses begun sending b)
@@ -279,13 +282,13 @@ module _ {R W : Type 0} (remaining : R → Option (List ℕ)) (tells : W → Str
   -- sending failed; and nothing was answered behind a message behind which none may follow
   abbrev pub RunEndsBy : Unbuffered R → List Message → List ℕ → List ℕ → Option Refusal → Place R → Ending → Type 0
   RunEndsBy s messages taken handed refuses place Over =
-      OnlyInterrupts (faults_of s) (faults_of (stream_at place)) × NoMoreAnswered messages taken refuses s place
+      OnlyInterrupts (faults_of s) (faults_of (stream_at place)) × NoMoreAnswered messages taken refuses (ends_of s) place
   RunEndsBy s messages taken handed refuses place stop.Many = OnlyInterrupts (faults_of s) (faults_of (stream_at place))
       × All (MayFollow true) messages × (refuses ≡ None) × IsMany (length messages + length handed) s (stream_at place)
   RunEndsBy s messages taken handed refuses place (Unread e) =
       FailsInRead s e (stream_at place) × All (MayFollow true) messages × (refuses ≡ None)
   RunEndsBy s messages taken handed refuses place (stop.Unsent e) = OnlyInterrupts (faults_of s) (faults_of (stream_at place))
-      × (All (MayFollow true) messages ⊎ IsClosed messages taken refuses s place)
+      × (All (MayFollow true) messages ⊎ IsClosed messages taken refuses (ends_of s) place)
 
   -- a run, but for what is sent last: behind the answers were written the call for a body that the client waits for, and a
   -- refusal of what is wrong, by its status; so there is no 200 but for a whole message. The end is asked for once
@@ -298,7 +301,7 @@ module _ {R W : Type 0} (remaining : R → Option (List ℕ)) (tells : W → Str
     pub refuses : Option Refusal
     pub turns : AnswersInTurns messages (s, w) taken place refuses (sending_of ending) (stream_at place, w')
     pub asks : AsksFew s (stream_at place)
-    pub wrong : IfSome refuses (IsToBeRefused s place)
+    pub wrong : IfSome refuses (IsToBeRefused (ends_of s) place)
     pub ends : RunEndsBy s messages taken handed refuses place ending
 
   -- a run: where sending failed, it returns why, and behind the call that failed nothing was taken or asked for; or all was sent

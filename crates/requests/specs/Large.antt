@@ -3,7 +3,7 @@ use Rattle.std.specs.Prelude.{◌≡◌, ℕ, ◌+◌, ◌*◌, ◌≤◌, ◌�
 use Rattle.messages.specs.declared.head.Extent.{Extent}
 use Rattle.messages.specs.declared.head.Extent.TheVariants.{Sized, Chunked}
 use Rattle.body_reader.specs.BodyReader.{IsBodyReader, handed_of}
-use Rattle.body_reader.specs.Coding.{Grammar, Leads, LeadsOpen, heeded}
+use Rattle.body_reader.specs.Coding.{Grammar, Leads, LeadsOpen}
 use Rattle.body_reader.specs.declared.either.Side.{Side}
 use Rattle.chunked.specs.declared.error.Malformed.{Malformed}
 use Rattle.chunked.specs.declared.place.Place.{Place}
@@ -37,13 +37,14 @@ pub record TurnsLarge {S : Type 0} (b : InBody S) : Type 0 where
 abbrev pub usual_rules : Extent → Grammar (Side ℕ Place) (Side (Unit {0}) Malformed)
 usual_rules extent = body_rules (coding_of usual extent)
 
--- these bytes begin a body, which goes on behind them, and without the last of them, which are no payload, they aren't too large
-pub record IsAwaited (extent : Extent) (bytes : List ℕ) : Type 0 where
-  pub front : List ℕ
-  pub behind : List ℕ
-  pub equal : bytes ≡ front ++ behind
+-- more of this body is to be asked for: nothing was handed out, and what is buffered, and comes, is no payload
+abbrev pub AwaitsMore : {S : Type 0} → InBody S → List ℕ → List ℕ → Type 0
+AwaitsMore b front behind = (front ≡ []) × LeadsOpen (body_rules b.body.coding) b.body.place [] behind
+
+-- the bytes in front begin a body, and aren't too large; and it goes on behind those that follow, which are no payload
+pub record IsAwaited (extent : Extent) (front behind : List ℕ) : Type 0 where
   pub payload : List ℕ
   pub place : Side ℕ Place
-  pub leads : Leads (usual_rules extent) (usual_rules extent).first front payload place (heeded (usual_rules extent) behind)
+  pub leads : Leads (usual_rules extent) (usual_rules extent).first front payload place []
   pub small : is_large extent (length front) (length payload) ≡ false
   pub more : LeadsOpen (usual_rules extent) place [] behind

@@ -1,6 +1,7 @@
 -- What is written, and when it is sent.
-use Rattle.std.specs.Prelude.{◌≡◌, ℕ, ◌<◌, ◌⊎◌, List, [], ◌∷◌, ◌++◌, length, Result, Ok, MatchResult}
+use Rattle.std.specs.Prelude.{◌≡◌, ℕ, ◌<◌, ◌⊎◌, List, [], ◌∷◌, length, Result, Ok, MatchResult}
 use Rattle.std.specs.declared.io.Error.{Error}
+use Rattle.buffer_redux.specs.Asking.{AskedOver}
 use Rattle.buffer_redux.specs.BufWriter.{WasFlushed}
 use Rattle.buffer_redux.specs.Buffered.{Buffered}
 use Rattle.buffer_redux.specs.StreamLog.{StreamLog}
@@ -39,20 +40,19 @@ Both R W = Unbuffered R × Buffered W StdPolicy
 abbrev pub HandsOutSome : {R : Type 0} → Unbuffered R → Unbuffered R → Type 0
 HandsOutSome s t = (bytes : List ℕ) × HandsOutInOrder s bytes t
 
--- it handed out some, and was asked, for the last time where what was left of it at first, and what had come, settled nothing
-pub record AsksUnsettled {R : Type 0} (Open : List ℕ → Type 0) (first s t : Unbuffered R) : Type 0 where
+-- it handed out some, and was asked, only where what was left, and had come, settled nothing behind the bytes that it had handed
+-- out before, since the first
+pub record AsksUnsettled {R : Type 0} (Open : List ℕ → List ℕ → Type 0) (first s t : Unbuffered R) : Type 0 where
   pub hands : HandsOutSome s t
-  pub asks : s.log.reads.asks < t.log.reads.asks
-  pub came : List ℕ
-  pub given : t.log.reads.given ≡ first.log.reads.given ++ (came ++ t.log.reads.latest)
-  pub open' : Open (first.left ++ came)
+  pub front : List ℕ
+  pub before : HandsOutInOrder first front s
+  pub asked : AskedOver (Open front) s t
 
--- nothing is buffered of it, or what was left of it at first, and what came, settles nothing
-abbrev pub IsUnsettled : {R : Type 0} → (List ℕ → Type 0) → Unbuffered R → Unbuffered R → Type 0
-IsUnsettled Open first s = (s.left ≡ [])
-    ⊎ ((came : List ℕ) × (s.log.reads.given ≡ first.log.reads.given ++ came) × Open (first.left ++ came))
+-- nothing is buffered of it, or what is settles nothing behind the bytes that it handed out since the first
+abbrev pub IsUnsettled : {R : Type 0} → (List ℕ → List ℕ → Type 0) → Unbuffered R → Unbuffered R → Type 0
+IsUnsettled Open first s = (s.left ≡ []) ⊎ ((front : List ℕ) × HandsOutInOrder first front s × Open front s.left)
 
-module _ {R W : Type 0} (tells : W → StreamLog) (trace : W → W → Type 0) (Open : List ℕ → Type 0) where
+module _ {R W : Type 0} (tells : W → StreamLog) (trace : W → W → Type 0) (Open : List ℕ → List ℕ → Type 0) where
   -- the stream hands out some of what is buffered of it, or is asked, where all that was written was received and flushed; or
   -- what is held is sent, where it is to be asked, and then it is, or that failed, and nothing else is done
   abbrev pub IsStep : Unbuffered R → Both R W → Result (Unit {0}) Error → Both R W → Type 0

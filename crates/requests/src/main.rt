@@ -4,8 +4,9 @@
 //! `100-continue`, before the body if the client waits (`early_refusal`); and else 100 before it. What comes and is no request is
 //! refused by the status that RFC 9112 has for it (`refusal_of`); 400 is for a body that is none, or ends early, and 413 for one
 //! that is too large (`is_large`); and then no more comes. It ends behind a request after which none may follow, and where the
-//! stream does. It asks the stream only for more of a head, or of a body behind the call, at last where that settles nothing
-//! (`CallsFor`, `AwaitsBody`), and once all that it wrote was sent, and sends only there, for room, and at the end (`Prompt`).
+//! stream does. It asks the stream only for more of a head, or of a body behind the call, each step at last where that settles
+//! nothing (`AwaitsHead`, `AwaitsBody`), and once all that it wrote was sent, and sends only there, for room, and at the end
+//! (`Prompt`).
 //! Each request is answered before more is taken (`AnswersInTurns`); and behind a call of a stream that failed nothing is taken
 //! or asked (`AnswersPart`).
 #![tactic(auto)]
@@ -19,15 +20,14 @@ ghost use Rattle.std.specs.declared.io.Error.{Error};
 ghost use Rattle.redux_buffer.specs.Faults.{IsInterrupt};
 ghost use Rattle.buffer_redux.specs.Buffered.{Buffered};
 ghost use Rattle.buffer_redux.specs.declared.policy.StdPolicy.{StdPolicy};
-ghost use Rattle.codec.specs.Grammar.{IsOpen};
 ghost use Rattle.codec.specs.NextPiece.{NextPiece};
 ghost use Rattle.codec.specs.PieceReader.{IsSettled, ReaderState, left_of};
 ghost use Rattle.messages.specs.declared.head.Heads.{Heads};
 ghost use Rattle.messages.specs.Heads.{heads};
 ghost use Rattle.messages.specs.Limits.{usual};
-ghost use Rattle.messages.specs.Messages.{Begun, Enters, stop_answer};
+ghost use Rattle.messages.specs.Messages.{Begun, Enters, room_of, stop_answer};
 ghost use Rattle.requests.specs.Sending.{IsHeld, Prompt, SendsUnless};
-ghost use Rattle.requests.specs.Answers.{AnswersTurn, CallsFor, EndsSent, EndsUntaken, ServesRequests, ending_of, only_line_ends, sending_of, stream_in};
+ghost use Rattle.requests.specs.Answers.{AnswersTurn, AwaitsHead, CallsFor, EndsSent, EndsUntaken, KeepsRoom, ServesRequests, ending_of, only_line_ends, room_at, sending_of, stream_in};
 ghost use Rattle.requests.specs.Texts.{early_refusal, is_known};
 
 use crate::taking::{Untaken, take_whole};
@@ -73,7 +73,8 @@ fn serve<R: TellRead, W: TellWrite>(
     requires held { IsHeld writer.old }
     requires room { 65536 ≤ writer.old.block.capacity }
     requires limits { requests.decoder.0 ≡ usual }
-    ensures { ServesRequests R.remaining W.log W.trace (left_of requests) writer.old result.0 result.1 writer.new }
+    ensures room { room_at result.0 ≡ room_of requests.reader.block }
+    ensures serves { ServesRequests R.remaining W.log W.trace (left_of requests) writer.old result.0 result.1 writer.new }
 {
     let mut next = requests;
     for _message in 0..u64::MAX {
@@ -128,6 +129,7 @@ fn answer<R: TellRead, W: TellWrite>(
     requires held { IsHeld writer.old }
     requires limits { requests.decoder.0 ≡ usual }
     ensures turns { AnswersTurn R.remaining W.log W.trace (left_of requests) writer.old result writer.new }
+    ensures room { KeepsRoom (room_of requests.reader.block) result }
     ensures limits { IfOk result (λ next. next.decoder.0 ≡ usual) }
 {
     match requests.next_buffered() {
@@ -144,6 +146,7 @@ fn answer_next<R: TellRead, W: TellWrite>(
     requires held { IsHeld writer.old }
     requires limits { requests.decoder.0 ≡ usual }
     ensures turns { AnswersTurn R.remaining W.log W.trace (left_of requests) writer.old result writer.new }
+    ensures room { KeepsRoom (room_of requests.reader.block) result }
     ensures limits { IfOk result (λ next. next.decoder.0 ≡ usual) }
 {
     match send_to_ask(&requests, writer) {
@@ -178,9 +181,10 @@ fn stopped<R: TellRead, W: TellWrite>(
 ) -> Result<Requests<R>, (Place<R>, Ending)>
     requires limits { requests.decoder.0 ≡ usual }
     ensures limits { IfOk result (λ next. next.decoder.0 ≡ usual) }
+    ensures room { KeepsRoom (room_of requests.reader.block) result }
     ensures turns { (s : ReaderState R Heads) (w : Buffered W StdPolicy) → s.ended ≡ false
         → NextPiece R.remaining (heads usual) s (stop_answer stop) requests
-        → Prompt W.log W.trace (IsOpen (heads usual)) (left_of s, w) (Ok tt) (left_of requests, writer.old)
+        → Prompt W.log W.trace AwaitsHead (left_of s, w) (Ok tt) (left_of requests, writer.old)
         → AnswersTurn R.remaining W.log W.trace (left_of s) w result writer.new }
 {
     if is_interrupt(&stop) {
@@ -238,17 +242,19 @@ fn answer_body<R: TellRead, W: TellWrite>(
     requires held { IsHeld writer.old }
     requires enters { Enters usual body }
     ensures limits { IfOk result (λ next. next.decoder.0 ≡ usual) }
+    ensures room { KeepsRoom (room_of body.body.reader.block) result }
     ensures turns { (s : ReaderState R Heads) (w : Buffered W StdPolicy) → Begun R.remaining s body
-        → Prompt W.log W.trace (IsOpen (heads usual)) (left_of s, w) (Ok tt) (stream_in body, writer.old)
+        → Prompt W.log W.trace AwaitsHead (left_of s, w) (Ok tt) (stream_in body, writer.old)
         → AnswersTurn R.remaining W.log W.trace (left_of s) w result writer.new }
 {
     let said = body.said();
-    match early_refusal(is_known(body.head()), said) {
+    let known = is_known(body.head());
+    match early_refusal(known, said) {
         Some(why) => {
             let ending = ending_of(refuse(why, false, writer));
             Err((Place::Inside(body), ending))
         }
-        None => match call_for_body(said, writer) {
+        None => match call_for_body(known, said, writer) {
             Ok(()) => answer_called(body, writer),
             Err(e) => Err((Place::Inside(body), Ending::Unsent(e))),
         },
@@ -264,6 +270,7 @@ fn answer_called<R: TellRead, W: TellWrite>(
     requires enters { Enters usual body }
     requires open { early_refusal (is_known body.head) body.said ≡ None }
     ensures limits { IfOk result (λ next. next.decoder.0 ≡ usual) }
+    ensures room { KeepsRoom (room_of body.body.reader.block) result }
     ensures turns { (s : ReaderState R Heads) (w : Buffered W StdPolicy) → Begun R.remaining s body
         → CallsFor R.remaining W.log W.trace body.head body.said (left_of s, w) (Ok tt) (stream_in body, writer.old)
         → AnswersTurn R.remaining W.log W.trace (left_of s) w result writer.new }

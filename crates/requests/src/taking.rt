@@ -6,9 +6,9 @@ ghost use Rattle.body_reader.specs.BodyReader.{IsBodyReader, TookWholeBody, hand
 ghost use Rattle.body_reader.specs.Coding.{LeadsOpen};
 ghost use Rattle.codec.specs.PieceReader.{left_of};
 ghost use Rattle.messages.specs.Limits.{usual};
-ghost use Rattle.messages.specs.Messages.{Enters, InsideGoes, body_rules};
-ghost use Rattle.requests.specs.Answers.{FailsOn, FailsToRead, ReadsSome, ReadsSteadily, TakeFails, TakesWhole, sent_till, sent_with, stream_in};
-ghost use Rattle.requests.specs.Large.{IsAwaited, is_large};
+ghost use Rattle.messages.specs.Messages.{Enters, InsideGoes, body_rules, room_of};
+ghost use Rattle.requests.specs.Answers.{ReadsSome, ReadsSteadily, TakeFails, TakesWhole, sent_till, sent_with, stream_in};
+ghost use Rattle.requests.specs.Large.{AwaitsMore, IsAwaited, is_large};
 ghost use Rattle.requests.specs.Sending.{IsHeld, Prompt, SendsUnless};
 
 use crate::limits::is_large;
@@ -42,6 +42,7 @@ pub fn take_whole<R: TellRead, W: TellWrite>(
     ensures limits { IfOk result (λ r. r.1.decoder.0 ≡ usual) }
     ensures whole { IfOk result (λ r. TakesWhole R.remaining body (left_of r.1) r.0) }
     ensures steady { IfOk result (λ r. ReadsSteadily (stream_in body) (left_of r.1)) }
+    ensures room { IfOk result (λ r. room_of r.1.reader.block ≡ room_of body.body.reader.block) }
     ensures part { IfErr result (λ e. (handed : List ℕ) × InsideGoes R.remaining body handed e.0
         × TakeFails (stream_in body) e.1 e.0) }
     ensures writes { MatchResult result
@@ -112,9 +113,9 @@ fn read_on<R: TellRead, W: TellWrite>(
     ensures noted { IfOk result (λ n. 0 < n → body.new.body.calls.reads.latest ≡ take n out.new) }
     ensures goes { InsideGoes R.remaining body.old (handed_out out.new result) body.new }
     ensures reads { IfOk result (λ n. ReadsSome (stream_in body.old) n body.new) }
-    ensures fails { IfErr result (λ e. FailsOn body.old e body.new) }
-    ensures writes { Prompt W.log W.trace (LeadsOpen (body_rules body.old.body.coding) body.old.body.place [])
-        (stream_in body.old, writer.old) (sent_with result) (stream_in body.new, writer.new) }
+    ensures fails { IfErr result (λ e. TakeFails (stream_in body.old) e body.new) }
+    ensures writes { Prompt W.log W.trace (AwaitsMore body.old) (stream_in body.old, writer.old) (sent_with result)
+        (stream_in body.new, writer.new) }
 {
     let count = body.read_buffered(out);
     if count > 0 {
@@ -136,7 +137,8 @@ fn read<R: TellRead>(body: &mut Body<R>, out: &mut [u8]) -> Result<usize, Untake
     ensures noted { IfOk result (λ n. 0 < n → body.new.body.calls.reads.latest ≡ take n out.new) }
     ensures goes { InsideGoes R.remaining body.old (handed_out out.new result) body.new }
     ensures reads { IfOk result (λ n. ReadsSome (stream_in body.old) n body.new) }
-    ensures fails { IfErr result (λ e. FailsToRead body.old e body.new) }
+    ensures fails { IfErr result (λ e. TakeFails (stream_in body.old) e body.new) }
+    ensures sent { sent_with result ≡ Ok tt }
     ensures asked { AskedWhere (LeadsOpen (body_rules body.old.body.coding) body.old.body.place []) (stream_in body.old)
         (stream_in body.new) }
     ensures asks { (stream_in body.old).left ≡ [] → ¬ (TookWholeBody (body_rules body.old.body.coding) body.old.body)

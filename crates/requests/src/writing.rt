@@ -3,7 +3,7 @@ ghost use Rattle.std.specs.Prelude.{◌≡◌, ◌++◌, codes, map};
 ghost use Rattle.std.specs.List.{concat};
 ghost use Rattle.buffer_redux.specs.WriteParts.{WritesParts};
 ghost use Rattle.requests.specs.Sending.{IsHeld, SendsForRoom, SendsHeld};
-ghost use Rattle.requests.specs.Texts.{answered, begins_known, begins_often, called, connection, early_refusal, granted, has_body, is_known, refusal, refusal_of, status, success, waits};
+ghost use Rattle.requests.specs.Texts.{answered, begins_known, begins_often, called, connection, early_refusal, granted, has_body, is_called, is_known, refusal, refusal_of, status, success, waits};
 
 use crate::limits::is_large;
 use buffer_redux::BufWriter;
@@ -109,16 +109,23 @@ fn put_line<'a, W: TellWrite>(
 }
 
 pub(crate) fn call_for_body<W: TellWrite>(
+    known: bool,
     said: ParsedHead,
     writer: &mut BufWriter<W>,
 ) -> io::Result<()>
-    ensures { SendsForRoom W.log W.trace writer.old (called (waits said)) result writer.new }
+    ensures { SendsForRoom W.log W.trace writer.old (called (is_called known said)) result writer.new }
 {
-    if waits(said) {
+    if is_called(known, said) {
         put(writer, &[b"HTTP/1.1 100 Continue\r\n\r\n"])
     } else {
         Ok(())
     }
+}
+
+fn is_called(known: bool, said: ParsedHead) -> bool
+    ensures { result ≡ is_called known said }
+{
+    waits(said) && (known && said.met)
 }
 
 fn waits(said: ParsedHead) -> bool

@@ -1,6 +1,7 @@
 -- A head that is buffered is begun with nobody asked, and without one the reader stands where it stood.
+use Rattle.std.proofs.Common.{ap, subst}
 use Rattle.messages.specs.MessagesLaws.{Begun-went}
-use Rattle.requests.proofs.Names.{heads, IsOpen, usual}
+use Rattle.requests.proofs.Names.{AwaitsHead, KeepsRoom, room_of}
 use Rattle.requests.proofs.Reading.{begun_enters}
 use Rattle.requests.proofs.Sending.{Prompt-read}
 use Rattle.requests.proofs.answer.Goals as goal
@@ -8,8 +9,16 @@ use Rattle.requests.proofs.answer.Goals as goal
 pub returns-in-Ok-clause-turns : goal.returns-in-Ok-clause-turns
 returns-in-Ok-clause-turns g c =
     c.answer_body.ensures.turns c.args.requests c.args.writer.now c.in-Ok.ensures.begun
-    (Prompt-read (IsOpen (heads usual)) c.args.writer.now
+    (Prompt-read AwaitsHead c.args.writer.now
     (Begun-went g.R.TellRead.remaining c.args.requests c.in-Ok.body c.in-Ok.ensures.begun).order c.in-Ok.ensures.unasked)
 
 pub answer_body-requires-clause-enters : goal.answer_body-requires-clause-enters
 answer_body-requires-clause-enters g c = begun_enters c.in-Ok.ensures.begun c.requires.limits
+
+pub returns-in-Ok-clause-room : goal.returns-in-Ok-clause-room
+returns-in-Ok-clause-room g c =
+    subst (λ r. KeepsRoom r c.answer_body.result) c.in-Ok.ensures.begun.room c.answer_body.ensures.room
+
+pub returns-in-Err-clause-room : goal.returns-in-Err-clause-room
+returns-in-Err-clause-room g c = subst (λ r. KeepsRoom r c.answer_next.result)
+    (ap (λ r. room_of r.reader.block) c.in-Err.ensures.stays.same) c.answer_next.ensures.room

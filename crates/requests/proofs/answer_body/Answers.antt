@@ -1,6 +1,6 @@
 -- What the head settles is told at once; else the call is written while nobody is asked, and where either fails no byte of the
 -- body was taken.
-use Rattle.std.proofs.Common.{◌≡◌, ◌∙◌, ap, Bool, true, false, ◌&&◌, if◌then◌else◌, [], ◌++◌, Option, None, Some, Err, Ok, refl, inl, inr, subst, sym}
+use Rattle.std.proofs.Common.{◌≡◌, ◌∙◌, ap, Bool, true, false, ◌&&◌, if◌then◌else◌, [], ◌++◌, None, Some, Err, Ok, refl, inl, inr, subst, sym}
 use Rattle.requests.proofs.Names.{All-nil, AwaitsBody, Begun-went, called, early_refusal, handed_of, Inside, InsideGoes-none, is_called, is_known, left_of, MayFollow, Refusal, RunsToLast, SendsForRoom, stream_in, Unknown, Unmet, Unsent, waits}
 use Rattle.requests.proofs.Answering.{RunsToLast-one, RunsToLast-refused}
 use Rattle.requests.proofs.Reading.{begun_steady, is_part, part_went}
@@ -8,17 +8,9 @@ use Rattle.requests.proofs.Sending.{Prompt-none, SendsForRoom-held}
 use Rattle.requests.proofs.answer_body.Goals as goal
 use Rattle.requests.proofs.answer_body.Goals.{After-early_refusal}
 
--- who waits is called unless refused, and who is refused isn't
-abbrev early : Bool → Bool → Bool → Option Refusal
-early w k m = if w then (if k then (if m then None else Some Unmet) else Some Unknown) else None
-
-calls : (w k m : Bool) → early w k m ≡ None → w ≡ (w && (k && m))
-calls false k m none = refl
-calls true true true none = refl
-calls true true false none = cc
-calls true false m none = cc
-
-no_call : (w k m : Bool) (why : Refusal) → early w k m ≡ Some why → (w && (k && m)) ≡ false
+-- who is refused isn't called
+no_call : (w k m : Bool) (why : Refusal)
+    → (if w then (if k then (if m then None else Some Unmet) else Some Unknown) else None) ≡ Some why → (w && (k && m)) ≡ false
 no_call false k m why is = cc
 no_call true true true why is = cc
 no_call true true false why is = refl
@@ -27,8 +19,8 @@ no_call true false m why is = refl
 -- what its head settles of the message
 settled : (g : _) (c : After-early_refusal g)
     → c.early_refusal.result ≡ early_refusal (is_known c.args.body.head) c.args.body.said
-settled g c = c.early_refusal.ensures ∙ ap (early_refusal c.is_known.result) c.said-said.ensures.value
-    ∙ ap (λ k. early_refusal k c.args.body.said) (c.is_known.ensures ∙ ap is_known c.head.ensures)
+settled g c = c.early_refusal.ensures ∙ ap (early_refusal c.is_known-known.result) c.said-said.ensures.value
+    ∙ ap (λ k. early_refusal k c.args.body.said) (c.is_known-known.ensures ∙ ap is_known c.head.ensures)
 
 pub answer_called-requires-clause-held : goal.answer_called-requires-clause-held
 answer_called-requires-clause-held g c =
@@ -38,14 +30,12 @@ pub answer_called-requires-clause-open : goal.answer_called-requires-clause-open
 answer_called-requires-clause-open g c =
     sym (settled g (goal.at.answer_called-requires-clause-open g c).After-early_refusal) ∙ c.in-None.is
 
--- the text of the call, by what the head settles
-text : (g : _) (c : After-early_refusal g) → c.early_refusal.result ≡ None
-    → called (waits c.said-said.result) ≡ called (is_called (is_known c.args.body.head) c.args.body.said)
-text g c none =
-    let b = c.args.body in
-    ap (λ s. called (waits s)) c.said-said.ensures.value
-    ∙ ap called (calls (waits b.said) (is_known b.head) b.said.met
-    (sym (settled g c) ∙ none))
+-- the text of the call
+text : (g : _) (c : After-early_refusal g)
+    → called (is_called c.is_known-known.result c.said-said.result)
+    ≡ called (is_called (is_known c.args.body.head) c.args.body.said)
+text g c = ap (λ s. called (is_called c.is_known-known.result s)) c.said-said.ensures.value
+    ∙ ap (λ k. called (is_called k c.args.body.said)) (c.is_known-known.ensures ∙ ap is_known c.head.ensures)
 
 pub returns-in-Ok-clause-turns : goal.returns-in-Ok-clause-turns
 returns-in-Ok-clause-turns g c = λ s w begun writes.
@@ -54,7 +44,7 @@ returns-in-Ok-clause-turns g c = λ s w begun writes.
       before = c.args.writer.now;
       comes = writes;
       call = subst (λ l. SendsForRoom g.W.Tell.log g.W.TellWrite.trace c.args.writer.now l (Ok tt) c.call_for_body.new.writer)
-          (text g (goal.at.returns-in-Ok-clause-turns g c).After-early_refusal c.in-None.is) c.in-Ok.ensures;
+          (text g (goal.at.returns-in-Ok-clause-turns g c).After-early_refusal) c.in-Ok.ensures;
     })
 
 pub returns-in-Err-clause-turns : goal.returns-in-Err-clause-turns
@@ -72,7 +62,7 @@ returns-in-Err-clause-turns g c = λ s w begun writes.
           comes = writes;
           call = subst (λ l. SendsForRoom g.W.Tell.log g.W.TellWrite.trace c.args.writer.now l (Err c.in-Err.e)
               c.call_for_body.new.writer)
-              (text g (goal.at.returns-in-Err-clause-turns g c).After-early_refusal c.in-None.is) c.in-Err.ensures;
+              (text g (goal.at.returns-in-Err-clause-turns g c).After-early_refusal) c.in-Err.ensures;
         },
       ),
     ) ((begun_steady begun).faults, inl (All-nil (MayFollow true)))

@@ -8,7 +8,7 @@ use Rattle.requests.proofs.answer_called.Goals as goal
 -- another may follow a message, or none does
 follows : {S : Type 0} (s : Unbuffered S) (place : Place S) {head payload : List ℕ} {said : ParsedHead} (keeps : Bool)
     → IsHead usual head said → said.keeps ≡ keeps → ends_of (stream_at place) ≡ ends_of s
-    → All (MayFollow true) ((head, payload) ∷ []) ⊎ IsClosed ((head, payload) ∷ []) [] None s place
+    → All (MayFollow true) ((head, payload) ∷ []) ⊎ IsClosed ((head, payload) ∷ []) [] None (ends_of s) place
 follows s place {head} {payload} {said} true is same ends =
     inl (All-cons (MayFollow true) (head, payload) [] (said, is, same) (All-nil (MayFollow true)))
 follows s place {said = said} false is same ends = inr (Closes-one (said, is, same), refl, refl, ends)
@@ -72,3 +72,6 @@ returns-in-Err-clause-turns g c = λ s w begun call.
     let part = c.in-Err.ensures.part in
     torn_answered c.requires.open begun c.requires.enters part.1 call
     c.in-Err.why c.unended-ending.result part.2 c.in-Err.ensures.writes c.unended-ending.ensures
+
+pub returns-in-Err-clause-room : goal.returns-in-Err-clause-room
+returns-in-Err-clause-room g c = c.in-Err.ensures.part.1.room

@@ -1,6 +1,6 @@
 -- Where no head is settled what is held is sent first, so the stream is asked with nothing held.
 use Rattle.std.proofs.Common.{true, [], Ok, None, sym, subst, inl, inr, refl}
-use Rattle.requests.proofs.Names.{All-nil, Before, heads, IsOpen, left_of, MayFollow, Prompt, StreamWent-none, Unsent, usual}
+use Rattle.requests.proofs.Names.{All-nil, AwaitsHead, Before, KeepsRoom, left_of, MayFollow, Prompt, same_room, StreamWent-none, Unsent}
 use Rattle.requests.proofs.Answering.{RunsToLast-one}
 use Rattle.requests.proofs.Coming.{comes, open_where, usually}
 use Rattle.requests.proofs.Reading.{begun_enters, none_met, steady_same}
@@ -21,7 +21,7 @@ returns-in-Ok-next-clause-turns g c =
     let came = comes c.args.requests c.args.writer.now
     c.send_to_ask.new.writer c.in-Ok.ensures _ begun.behind (usually c.requires.limits begun.next) in
     c.answer_body.ensures.turns c.args.requests c.args.writer.now begun
-    (subst (λ u. Prompt g.W.Tell.log g.W.TellWrite.trace (IsOpen (heads usual))
+    (subst (λ u. Prompt g.W.Tell.log g.W.TellWrite.trace AwaitsHead
     (left_of c.args.requests, c.args.writer.now) (Ok tt) (u, c.send_to_ask.new.writer)) (sym begun.stream) came)
 
 pub returns-in-Err-next-clause-turns : goal.returns-in-Err-next-clause-turns
@@ -37,6 +37,16 @@ returns-in-Err-clause-turns g c =
     RunsToLast-one [] [] (Before c.args.requests) (refl, refl) (steady_same s s refl).asks [] None tt
     (Unsent c.in-Err.e) (
       StreamWent-none g.R.TellRead.remaining s,
-      Prompt-unsent (IsOpen (heads usual)) s c.args.writer.now c.send_to_ask.new.writer
+      Prompt-unsent AwaitsHead s c.args.writer.now c.send_to_ask.new.writer
           c.in-Err.e c.in-Err.ensures (λ unsettled. inr (open_where c.args.requests unsettled)),
     ) (none_met refl, inl (All-nil (MayFollow true)))
+
+pub returns-in-Ok-next-clause-room : goal.returns-in-Ok-next-clause-room
+returns-in-Ok-next-clause-room g c =
+    subst (λ r. KeepsRoom r c.answer_body.result) c.in-Ok-next.ensures.next.room c.answer_body.ensures.room
+
+pub returns-in-Err-next-clause-room : goal.returns-in-Err-next-clause-room
+returns-in-Err-next-clause-room g c =
+    let went = c.in-Err-next.ensures.next.went in
+    subst (λ r. KeepsRoom r c.stopped.result)
+    (same_room c.in-Err-next.requests.reader.block c.args.requests.reader.block went.capacity went.limit) c.stopped.ensures.room

@@ -1,6 +1,6 @@
 -- What a turn answered joins what was answered before, and each turn counts a message or an interruption.
-use Rattle.std.proofs.Common.{[], ◌++◌, None, true, refl, sym, append-nil, arith, length-append}
-use Rattle.requests.proofs.Names.{All-append, All-nil, heads, IsOpen, left_of, MayFollow, StreamWent-none, usual}
+use Rattle.std.proofs.Common.{[], ◌++◌, ◌∙◌, None, true, refl, sym, append-nil, arith, length-append}
+use Rattle.requests.proofs.Names.{All-append, All-nil, AwaitsHead, left_of, MayFollow, StreamWent-none}
 use Rattle.requests.specs.declared.Ending.TheVariants.{Many}
 use Rattle.requests.proofs.Answering.{no_turn}
 use Rattle.requests.proofs.Reading.{steadily, steady_same}
@@ -19,6 +19,7 @@ loop-message-init g c = record {
   turns = omega arith;
   held = c.requires.held;
   limits = c.requires.limits;
+  room = refl;
 }
 
 pub loop-message-preserved : goal.loop-message-preserved
@@ -39,6 +40,7 @@ loop-message-preserved g c =
       held = AnswersEach-held g.R.TellRead.remaining g.W.Tell.log g.W.TellWrite.trace b.messages
           (left_of c.loop-message.next, c.loop-message.writer) (left_of c.in-Ok.behind, c.answer.new.writer) b.each before.held;
       limits = c.in-Ok.ensures.limits;
+      room = c.in-Ok.ensures.room ∙ before.room;
     }
 
 pub send_last-answer-requires : goal.send_last-answer-requires
@@ -49,15 +51,18 @@ send_last-answer-requires g c = record {
 
 pub returns-in-Err : goal.returns-in-Err
 returns-in-Err g c = record {
-  ending = c.in-Err.ending;
-  held = c.answer.new.writer;
-  runs = RunsToLast-after g.R.TellRead.remaining g.W.Tell.log g.W.TellWrite.trace c.loop-message.invariant.goes
-      c.in-Err.ending c.in-Err.ensures.turns;
-  last = c.send_last-answer.ensures;
+  room = c.in-Err.ensures.room ∙ c.loop-message.invariant.room;
+  serves = record {
+    ending = c.in-Err.ending;
+    held = c.answer.new.writer;
+    runs = RunsToLast-after g.R.TellRead.remaining g.W.Tell.log g.W.TellWrite.trace c.loop-message.invariant.goes
+        c.in-Err.ending c.in-Err.ensures.turns;
+    last = c.send_last-answer.ensures;
+  };
 }
 
-pub returns : goal.returns
-returns g c =
+pub returns-clause-serves : goal.returns-clause-serves
+returns-clause-serves g c =
     let before = c.loop-message.invariant in record {
       ending = Many;
       held = c.loop-message.writer;
@@ -75,7 +80,7 @@ returns g c =
           each = before.goes.each;
           turn = (
             StreamWent-none g.R.TellRead.remaining (left_of c.loop-message.next),
-            Prompt-none (IsOpen (heads usual)) (left_of c.loop-message.next, c.loop-message.writer),
+            Prompt-none AwaitsHead (left_of c.loop-message.next, c.loop-message.writer),
           );
         };
         asks = before.goes.reads.asks;

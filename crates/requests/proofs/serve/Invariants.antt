@@ -1,5 +1,5 @@
 use Rattle.std.proofs.Common.{◌≡◌, ◌+◌, ◌≤◌, length}
-use Rattle.requests.proofs.Names.{Continues, faults_of, IsHeld, left_of, usual}
+use Rattle.requests.proofs.Names.{Continues, faults_of, IsHeld, left_of, room_of, usual}
 use Rattle.requests.proofs.serve.Given as goal
 
 -- the messages that went are answered, and each turn was of one, or of a read that was interrupted
@@ -10,4 +10,5 @@ invariant-loop-message g l = record {
   turns : l._message + length (faults_of (left_of l.fn.requests)) ≤ length goes.messages + length (faults_of (left_of l.next));
   held : IsHeld l.writer;
   limits : l.next.decoder.0 ≡ usual;
+  room : room_of l.next.reader.block ≡ room_of l.fn.requests.reader.block;
 }

@@ -1,10 +1,9 @@
 -- The payload of each read joins what came before, which wasn't too large before the last read.
 use Rattle.std.proofs.Common.{◌≡◌, ◌∙◌, false, ℕ, zero, suc, ◌+◌, ◌<◌, ◌≤◌, ◌⊎◌, List, [], ◌++◌, length, take, Option, ap, arith, inl, inr, length-append, refl, subst, sym, Ok, Result}
-use Rattle.requests.proofs.Names.{Buffered, Enters, Error, handed_of, InBody, InsideGoes, InsideGoes-joins, InsideGoes-none, is_large, IsAwaited, length-take-le, Prompt, sent_till, StdPolicy, stream_in, StreamLog, Unbuffered, usual}
-use Rattle.requests.proofs.Coming.{GoesOn}
+use Rattle.requests.proofs.Names.{Buffered, Enters, Error, AwaitsMore, handed_of, InBody, InsideGoes, InsideGoes-joins, InsideGoes-none, is_large, IsAwaited, length-take-le, Prompt, sent_till, StdPolicy, stream_in, StreamLog, Unbuffered, usual}
 use Rattle.messages.specs.declared.head.ParsedHead.{ParsedHead}
 use Rattle.requests.proofs.Large.{awaited, few_counted, tested, turns_large}
-use Rattle.requests.proofs.Reading.{TakeFails-of, inside_went, steadily, steady_same}
+use Rattle.requests.proofs.Reading.{TakeFails-after, inside_went, steadily, steady_same}
 use Rattle.requests.proofs.Sending.{Prompt-held, Prompt-none, Prompt-on}
 use Rattle.requests.proofs.taking.payload_len.Goals as goal
 
@@ -34,13 +33,13 @@ asks_on : {R W : Type 0} {remaining : R → Option (List ℕ)} {tells : W → St
     (sending : Result (Unit {0}) Error) → Enters usual b → InsideGoes remaining b payload m
     → len ≡ length (handed_of m.body) → is_large m.said.extent (length m.body.taken) len ≡ false
     → Prompt tells trace (IsAwaited b.said.extent) (stream_in b, w) (Ok tt) (stream_in m, u)
-    → Prompt tells trace (GoesOn m) (stream_in m, u) sending (t, v)
+    → Prompt tells trace (AwaitsMore m) (stream_in m, u) sending (t, v)
     → Prompt tells trace (IsAwaited b.said.extent) (stream_in b, w) sending (t, v)
 asks_on {b = b} {m = m} {t = t} {w = w} {u = u} {v = v} sending enters goes many small =
-    Prompt-on (GoesOn m) (IsAwaited b.said.extent) (stream_in b, w) (stream_in m, u) (t, v) sending
-    (inside_went goes).order (λ more on. awaited enters goes
+    Prompt-on (AwaitsMore m) (IsAwaited b.said.extent) (stream_in b, w) (stream_in m, u) (t, v) sending
+    (inside_went goes).order (awaited enters goes
     (subst (λ x. is_large x.extent (length m.body.taken) (length (handed_of m.body)) ≡ false) goes.said
-    (subst (λ n. is_large m.said.extent (length m.body.taken) n ≡ false) many small)) more on)
+    (subst (λ n. is_large m.said.extent (length m.body.taken) n ≡ false) many small)))
 
 pub returns-then-is_large-clause-goes : goal.returns-then-is_large-clause-goes
 returns-then-is_large-clause-goes g c = ([], InsideGoes-none g.R.TellRead.remaining c.args.body.now c.requires.enters.whole)
@@ -166,7 +165,7 @@ returns-in-Err-clause-goes g c =
 
 pub returns-in-Err-clause-fails : goal.returns-in-Err-clause-fails
 returns-in-Err-clause-fails g c =
-    TakeFails-of c.loop-read.body c.read_on.new.body c.loop-read.invariant.steady c.in-Err.e c.in-Err.ensures.fails
+    TakeFails-after c.loop-read.invariant.steady c.in-Err.e c.read_on.new.body c.in-Err.ensures.fails
 
 pub returns-in-Err-clause-writes : goal.returns-in-Err-clause-writes
 returns-in-Err-clause-writes g c =

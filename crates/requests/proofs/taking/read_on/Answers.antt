@@ -1,9 +1,9 @@
 -- The stream is asked only where nothing buffered is payload, and what was held was sent then.
 use Rattle.std.proofs.Common.{◌≡◌, ℕ, [], take, Option, List, ap, arith, length, subst, sym}
 use Rattle.body_reader.specs.Between.{handed_out}
-use Rattle.requests.proofs.Names.{InBody, InsideGoes, InsideGoes-joins, Prompt, stream_in}
-use Rattle.requests.proofs.Coming.{GoesOn, NoneLeft, comes_inside, unsent_empty}
-use Rattle.requests.proofs.Reading.{fails_since, inside_went, reads_since, sent_so}
+use Rattle.requests.proofs.Names.{AwaitsMore, InBody, InsideGoes, InsideGoes-joins, Prompt, stream_in}
+use Rattle.requests.proofs.Coming.{NoneLeft, comes_inside, unsent_empty}
+use Rattle.requests.proofs.Reading.{fails_after, inside_went, reads_after, steady_same}
 use Rattle.requests.proofs.Sending.{Prompt-read}
 use Rattle.requests.proofs.taking.read_on.Goals as goal
 
@@ -14,7 +14,7 @@ read_none {R} {remaining} {b} {m} out none goes =
 
 pub returns-then-count-gt0-clause-writes : goal.returns-then-count-gt0-clause-writes
 returns-then-count-gt0-clause-writes g c =
-    Prompt-read (GoesOn c.args.body.now) c.args.writer.now
+    Prompt-read (AwaitsMore c.args.body.now) c.args.writer.now
     (inside_went c.read_buffered-count.ensures.goes).order c.read_buffered-count.ensures.unasked
 
 pub returns-then-is_done-clause-goes : goal.returns-then-is_done-clause-goes
@@ -23,7 +23,7 @@ returns-then-is_done-clause-goes g c =
 
 pub returns-then-is_done-clause-writes : goal.returns-then-is_done-clause-writes
 returns-then-is_done-clause-writes g c =
-    Prompt-read (GoesOn c.args.body.now) c.args.writer.now
+    Prompt-read (AwaitsMore c.args.body.now) c.args.writer.now
     (inside_went c.read_buffered-count.ensures.goes).order c.read_buffered-count.ensures.unasked
 
 pub returns-in-Ok : goal.returns-in-Ok
@@ -36,6 +36,7 @@ returns-in-Ok g c =
     let out = c.read_buffered-count.new.out in
     let zero : c.read_buffered-count.result ≡ 0 = omega (arith, c.if-count-gt0.false) in
     let goes = read_none out zero none.goes in
+    let still = steady_same (stream_in b) (stream_in m) none.unasked in
     let comes = comes_inside b m c.requires.whole goes none.unasked
     c.args.writer.now c.send_unless_shown.new.writer t c.read_buffered-count.result out read.goes c.in-Ok.ensures zero
     (omega (arith, c.requires.room))
@@ -46,12 +47,15 @@ returns-in-Ok g c =
       bound = read.bound;
       noted = read.noted;
       goes = InsideGoes-joins g.R.TellRead.remaining b m t [] (handed_out c.read.new.out c.read.result) goes read.goes;
-      reads = reads_since b m t none.unasked c.read.result read.reads;
-      fails = fails_since b m t none.unasked c.read.result read.fails;
-      writes = subst (λ r. Prompt g.W.Tell.log g.W.TellWrite.trace (GoesOn b) (stream_in b, c.args.writer.now) r
+      reads = reads_after still c.read.result t read.reads;
+      fails = fails_after still c.read.result t read.fails;
+      writes = subst (λ r. Prompt g.W.Tell.log g.W.TellWrite.trace (AwaitsMore b) (stream_in b, c.args.writer.now) r
           (stream_in t, c.send_unless_shown.new.writer))
-          (sym (sent_so b m t none.unasked c.read.result read.fails)) comes;
+          (sym read.sent) comes;
     }
+
+pub returns-in-Err-clause-fails : goal.returns-in-Err-clause-fails
+returns-in-Err-clause-fails g c = steady_same _ _ c.read_buffered-count.ensures.unasked
 
 pub returns-in-Err-clause-goes : goal.returns-in-Err-clause-goes
 returns-in-Err-clause-goes g c =

@@ -41,5 +41,8 @@ returns-in-Ok-finish-clause-writes g c = subst (λ u. Prompt g.W.Tell.log g.W.Te
     (IsAwaited c.args.body.said.extent) (stream_in c.args.body, c.args.writer.now) (Ok tt) (u, c.payload_len.new.writer))
     (sym (left_there c.in-Ok.ensures.ended c.in-Ok-finish.ensures.ends)) c.in-Ok.ensures.writes
 
+pub returns-in-Ok-finish-clause-room : goal.returns-in-Ok-finish-clause-room
+returns-in-Ok-finish-clause-room g c = c.in-Ok-finish.ensures.room ∙ c.in-Ok.ensures.goes.1.room
+
 pub unreachable-requires : goal.unreachable-requires
 unreachable-requires g c = finishes c.in-Ok.ensures.ended c.in-Err-finish.ensures.ends
