@@ -2,7 +2,6 @@
 use buffer_redux::BufReader;
 use redux_script::Answer;
 use std::alloc::Global;
-use std::fmt;
 use std::test::Fail;
 use tests_common::{Source, reader, source};
 
@@ -15,14 +14,4 @@ pub fn of_four(
 ) -> Result<BufReader<Source>, Fail> {
     let source = source(alloc, bytes, script)?;
     Ok(reader(alloc, 4, held, source)?)
-}
-
-/// A value whose `fmt` fails by itself.
-#[derive(Clone, Copy)]
-pub struct Unprintable;
-
-impl fmt::Display for Unprintable {
-    fn fmt<W: fmt::Write>(&self, _f: &mut fmt::Formatter<W>) -> fmt::Result {
-        Err(fmt::Error)
-    }
 }

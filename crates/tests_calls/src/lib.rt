@@ -1,12 +1,10 @@
 //! What no line of the program `replay` can ask: of readers and writers seeks, texts, what is printed, what is known of a
-//! stream of std, and what becomes of one that is taken apart or dropped; of blocks and of `bufcopy` their worked examples; and
+//! stream of std, and what becomes of one that is taken apart or dropped; of blocks and of copies their worked examples; and
 //! callers that rest on what a policy claims, which are proved and not run.
 #![tactic(auto)]
 
 #[cfg(test)]
 mod blocks;
-#[cfg(test)]
-mod buffers;
 pub mod claims;
 #[cfg(test)]
 mod copying;
@@ -15,8 +13,6 @@ mod example;
 #[cfg(test)]
 mod fixtures;
 #[cfg(test)]
-mod inside;
-#[cfg(test)]
 mod known;
 #[cfg(test)]
 mod limits;
@@ -24,10 +20,6 @@ mod limits;
 mod line_writers;
 #[cfg(test)]
 mod moves;
-#[cfg(test)]
-mod pieces;
-#[cfg(test)]
-mod play;
 #[cfg(test)]
 mod play_laws;
 #[cfg(test)]
@@ -48,8 +40,6 @@ mod std_writers;
 mod streams;
 #[cfg(test)]
 mod text_lines;
-#[cfg(test)]
-mod transfers;
 #[cfg(test)]
 mod unbuffer;
 #[cfg(test)]

@@ -1,11 +1,11 @@
-//! Each call that moves bytes into a bare buffer or out of it, by itself, and by the law that says what it does to the potential.
+//! Each call that moves bytes into a bare buffer or out of it, by itself or by the law that says what it does to the potential.
 use redux_buffer::laws::potential;
-use redux_buffer::tell::{TellRead, TellWrite};
+use redux_buffer::tell::{TellRead, TellWrite, Told};
 use redux_buffer::{Buffer, GrowError, laws};
 use redux_script::Answer;
 use std::alloc::Global;
 use std::io;
-use std::io::ErrorKind;
+use std::io::{ErrorKind, Read};
 use std::test::Fail;
 use tests_common::{Source, Target, empty, first, holding, kind, source, target};
 
@@ -14,33 +14,27 @@ use tests_common::{Source, Target, empty, first, holding, kind, source, target};
 enum Move {
     ToSlice(usize),
     FromSlice(&'static [u8]),
-    Short(&'static [u8]),
+    Append(&'static [u8]),
     Push(&'static [u8]),
     Max(usize),
     All,
     Write,
     Read,
     Consume(usize),
-    Clear,
+    Exactly(usize),
     MakeRoom,
     Reserve(usize),
     Limit(usize),
+    Clear,
 }
 
 // A count, if the call returns one, or the kind of an error.
 type Answered = Result<usize, ErrorKind>;
 
-fn granted(answer: Result<(), GrowError>) -> Answered {
+fn done<E: Into<io::Error>>(answer: Result<(), E>) -> Answered {
     match answer {
         Ok(()) => Ok(0),
-        Err(e) => Err(io::Error::from(e).kind()),
-    }
-}
-
-fn done(answer: io::Result<()>) -> Answered {
-    match kind(answer) {
-        Ok(()) => Ok(0),
-        Err(e) => Err(e),
+        Err(e) => Err(e.into().kind()),
     }
 }
 
@@ -50,42 +44,25 @@ fn room_of(out: &mut [u8], room: usize) -> &mut [u8] {
     &mut out[..room]
 }
 
-// Appends all where it fits.
-fn append_short(b: &mut Buffer, src: &[u8]) -> usize {
-    if src.len() > b.usable_space() {
+// Appends all in two halves, where there is space behind it.
+fn append(b: &mut Buffer, src: &[u8]) -> usize {
+    if !b.has_space_behind(src.len()) {
         return 0;
     }
-    b.append_short(src);
+    let (front, back) = src.split_at(src.len() / 2);
+    b.append(front);
+    b.append_short(back);
     src.len()
 }
 
-// A call over these streams and this slice, which promises nothing.
-fn by_itself<R: TellRead, W: TellWrite>(
-    b: &mut Buffer,
-    call: Move,
-    rdr: &mut R,
-    wrt: &mut W,
-    out: &mut [u8],
-) -> Answered {
-    match call {
-        Move::ToSlice(room) => return Ok(b.copy_to_slice(room_of(out, room))),
-        Move::FromSlice(src) => return Ok(b.copy_from_slice(src)),
-        Move::Short(src) => return Ok(append_short(b, src)),
-        Move::Push(src) => return granted(b.push_bytes(src)),
-        Move::Max(max) => return done(b.write_max(max, wrt)),
-        Move::All => return done(b.write_all(wrt)),
-        Move::Write => return kind(b.write_to(wrt)),
-        Move::Read => return kind(b.read_from(rdr)),
-        Move::Consume(n) => b.consume(n),
-        Move::Clear => b.clear(),
-        Move::MakeRoom => b.make_room(),
-        Move::Reserve(n) => return granted(b.reserve(n)),
-        Move::Limit(most) => return granted(b.set_limit(most)),
+// Drops so many bytes, where they are held.
+fn consume_exact(b: &mut Buffer, n: usize) {
+    if n <= b.len() {
+        b.consume_exact(n);
     }
-    Ok(0)
 }
 
-// The same by the laws.
+// A call over these streams and this slice, by its law if it has one. It promises nothing.
 fn by_law<R: TellRead, W: TellWrite>(
     b: &mut Buffer,
     call: Move,
@@ -96,19 +73,37 @@ fn by_law<R: TellRead, W: TellWrite>(
     match call {
         Move::ToSlice(room) => return Ok(potential::copy_to_slice(b, room_of(out, room))),
         Move::FromSlice(src) => return Ok(potential::copy_from_slice(b, src)),
-        Move::Short(src) => return Ok(append_short(b, src)),
-        Move::Push(src) => return granted(potential::push_bytes(b, src)),
+        Move::Append(src) => return Ok(append(b, src)),
+        Move::Push(src) => return done(potential::push_bytes(b, src)),
         Move::Max(max) => return done(potential::write_max(b, max, wrt)),
         Move::All => return done(potential::write_all(b, wrt)),
         Move::Write => return kind(potential::write_to(b, wrt)),
         Move::Read => return kind(potential::read_from(b, rdr)),
         Move::Consume(n) => potential::consume(b, n),
-        Move::Clear => potential::clear(b),
+        Move::Exactly(n) => consume_exact(b, n),
         Move::MakeRoom => potential::make_room(b),
-        Move::Reserve(n) => return granted(potential::reserve(b, n)),
-        Move::Limit(most) => return granted(potential::set_limit(b, most)),
+        Move::Reserve(n) => return done(potential::reserve(b, n)),
+        Move::Limit(most) => return done(potential::set_limit(b, most)),
+        Move::Clear => potential::clear(b),
     }
     Ok(0)
+}
+
+// The same by itself, but for those that the program `replay` makes.
+fn by_itself<R: TellRead, W: TellWrite>(
+    b: &mut Buffer,
+    call: Move,
+    rdr: &mut R,
+    wrt: &mut W,
+    out: &mut [u8],
+) -> Answered {
+    match call {
+        Move::ToSlice(room) => Ok(b.copy_to_slice(room_of(out, room))),
+        Move::Max(max) => done(b.write_max(max, wrt)),
+        Move::All => done(b.write_all(wrt)),
+        Move::Write => kind(b.write_to(wrt)),
+        _ => by_law(b, call, rdr, wrt, out),
+    }
 }
 
 // A call, what it returns, and then the bytes that are held and how many can be written behind them.
@@ -125,29 +120,26 @@ type Walk = (
 
 const OTHER: Answer = Answer::Fail(ErrorKind::Other);
 
+const REFUSED: Answered = Err(ErrorKind::InvalidInput);
+
 const INTO_A_SLICE: &'static [Step] = &[
     (Move::ToSlice(0), Ok(0), &[1, 2], 6),
     (Move::ToSlice(5), Ok(2), &[], 8),
     (Move::ToSlice(5), Ok(0), &[], 8),
 ];
 
-const AT_MOST_THREE: &'static [Step] = &[
+const AT_MOST: &'static [Step] = &[
     (Move::Max(3), Err(ErrorKind::Other), &[3, 4], 4),
     (Move::Max(1), Ok(0), &[4], 4),
-];
-
-const OF_MORE_THAN_IS_HELD: &'static [Step] = &[(Move::Max(18446744073709551615), Ok(0), &[], 8)];
-
-const ALL: &'static [Step] = &[
-    (Move::All, Err(ErrorKind::WriteZero), &[3], 5),
-    (Move::All, Ok(0), &[], 8),
+    (Move::Max(18446744073709551615), Ok(0), &[], 8),
 ];
 
 // A write of nothing isn't made.
 const ONCE: &'static [Step] = &[
-    (Move::Write, Err(ErrorKind::Other), &[1, 2, 3], 5),
-    (Move::Write, Ok(2), &[3], 5),
-    (Move::Write, Ok(1), &[], 8),
+    (Move::Write, Err(ErrorKind::Other), &[1, 2, 3, 4], 4),
+    (Move::Write, Ok(1), &[2, 3, 4], 4),
+    (Move::All, Err(ErrorKind::WriteZero), &[3, 4], 4),
+    (Move::All, Ok(0), &[], 8),
     (Move::Write, Ok(0), &[], 8),
 ];
 
@@ -164,55 +156,32 @@ const IN_PLACE: &'static [Step] = &[
         &[6, 7, 8, 9, 40, 1, 2, 3],
         0,
     ),
-    (
-        Move::Limit(7),
-        Err(ErrorKind::InvalidInput),
-        &[6, 7, 8, 9, 40, 1, 2, 3],
-        0,
-    ),
+    (Move::Limit(7), REFUSED, &[6, 7, 8, 9, 40, 1, 2, 3], 0),
     (Move::Limit(9), Ok(0), &[6, 7, 8, 9, 40, 1, 2, 3], 0),
-    (
-        Move::Reserve(2),
-        Err(ErrorKind::InvalidInput),
-        &[6, 7, 8, 9, 40, 1, 2, 3],
-        0,
-    ),
-    (
-        Move::Push(&[5]),
-        Err(ErrorKind::InvalidInput),
-        &[6, 7, 8, 9, 40, 1, 2, 3],
-        0,
-    ),
+    (Move::Reserve(2), REFUSED, &[6, 7, 8, 9, 40, 1, 2, 3], 0),
+    (Move::Push(&[5]), REFUSED, &[6, 7, 8, 9, 40, 1, 2, 3], 0),
+    (Move::Exactly(7), Ok(0), &[3], 0),
     (Move::Consume(99), Ok(0), &[], 8),
-    (Move::FromSlice(&[1, 2]), Ok(2), &[1, 2], 6),
-    (Move::Short(&[3, 4, 5]), Ok(3), &[1, 2, 3, 4, 5], 3),
-    (Move::Short(&[6, 7, 8, 9]), Ok(0), &[1, 2, 3, 4, 5], 3),
+    (Move::Append(&[3, 4, 5]), Ok(3), &[3, 4, 5], 5),
+    (Move::Append(&[1, 2, 3, 4, 5]), Ok(0), &[3, 4, 5], 5),
     (Move::Clear, Ok(0), &[], 8),
 ];
 
-static WALKS: [Walk; 6] = [
+static WALKS: [Walk; 4] = [
     (&[1, 2], &[], INTO_A_SLICE, &[1, 2, 0, 0, 0], &[]),
     (
         &[1, 2, 3, 4],
         &[Answer::Serve(2), OTHER],
-        AT_MOST_THREE,
+        AT_MOST,
         &[0; 5],
-        &[1, 2, 3],
-    ),
-    (&[1, 2], &[], OF_MORE_THAN_IS_HELD, &[0; 5], &[1, 2]),
-    (
-        &[1, 2, 3],
-        &[Answer::Serve(2), Answer::Serve(0)],
-        ALL,
-        &[0; 5],
-        &[1, 2, 3],
+        &[1, 2, 3, 4],
     ),
     (
-        &[1, 2, 3],
-        &[OTHER, Answer::Serve(2)],
+        &[1, 2, 3, 4],
+        &[OTHER, Answer::Serve(1), Answer::Serve(1), Answer::Serve(0)],
         ONCE,
         &[0; 5],
-        &[1, 2, 3],
+        &[1, 2, 3, 4],
     ),
     (&[1, 2, 3, 4, 5, 6, 7, 8], &[], IN_PLACE, &[0; 5], &[]),
 ];
@@ -259,22 +228,22 @@ fn goes(alloc: Global, walk: &Walk, is_law: bool) -> Result<bool, Fail> {
 #[test]
 fn moves(rt: HostRuntime) -> Result<(), Fail> {
     for (row, walk) in WALKS.iter().enumerate() {
-        assert!(rt; goes(rt.alloc(), walk, false)?, "{row}");
-        assert!(rt; goes(rt.alloc(), walk, true)?, "{row} by law");
+        for is_law in [false, true] {
+            assert!(rt; goes(rt.alloc(), walk, is_law)?, "{row} {is_law}");
+        }
     }
     Ok(())
 }
 
 // What goes through an empty buffer at once.
 fn through(b: &mut Buffer, out: &mut [u8]) -> usize {
-    let count = if b.is_empty() {
+    laws::block_law(b);
+    laws::ring_law(b);
+    if b.is_empty() {
         laws::copy_through(b, &[1, 2, 3], out)
     } else {
         0
-    };
-    laws::block_law(b);
-    laws::ring_law(b);
-    count
+    }
 }
 
 fn goes_through(alloc: Global, ring: bool) -> Result<bool, GrowError> {
@@ -293,5 +262,43 @@ fn goes_through(alloc: Global, ring: bool) -> Result<bool, GrowError> {
 #[test]
 fn laws_of_either_kind(rt: HostRuntime) -> Result<(), Fail> {
     assert!(rt; goes_through(rt.alloc(), false)? && goes_through(rt.alloc(), true)?);
+    Ok(())
+}
+
+// Says that it gave all that it was asked for, and leaves the bytes as they are.
+#[derive(Drop)]
+struct Pretends;
+
+impl Read for Pretends {
+    fn read(&mut self, buf: &mut [u8]) -> io::Result<usize> {
+        Ok(buf.len())
+    }
+}
+
+fn take_in<R: TellRead>(b: &mut Buffer, rdr: &mut R) -> Answered {
+    kind(b.read_from(rdr))
+}
+
+// What a ring has before anything is written into it are zeros, and they come round as bytes do.
+fn comes_round(b: &mut Buffer) -> bool {
+    let mut rdr = Told::new(Pretends);
+    let filled = [
+        take_in(b, &mut rdr),
+        Ok(b.usable_space()),
+        take_in(b, &mut rdr),
+    ];
+    b.consume(8187);
+    let copied = [b.usable_space(), b.copy_from_slice(&[1, 2, 3, 4, 5])];
+    let is_round = b.buf() == [0, 0, 0, 0, 0, 1, 2, 3, 4, 5].as_slice();
+    b.clear();
+    filled == [Ok(8192), Ok(0), Ok(0)]
+        && copied == [8187, 5]
+        && is_round
+        && b.usable_space() == 8192
+}
+
+#[test]
+fn pretended(rt: HostRuntime) -> Result<(), Fail> {
+    assert!(rt; comes_round(&mut empty(rt.alloc(), true, 8192)?));
     Ok(())
 }

@@ -1,18 +1,19 @@
-//! The laws of readers and writers that make calls, each by one.
+//! The laws of readers and writers that make calls, each by one; and what is inside them: policies, streams, and bytes that are put
+//! in and sent by hand.
 use crate::fixtures::of_four;
 use buffer_redux::policy::{
     FlushAtLeast, FlushExact, FlushOn, FlushOnNewline, MinBuffered, StdPolicy, WriterPolicy,
 };
-use buffer_redux::tell::{TellRead, TellSeek, Told};
+use buffer_redux::tell::{TellRead, TellSeek, TellWrite, Told};
 use buffer_redux::{BufReader, BufWriter, LineWriter};
 use redux_play::laws;
 use redux_script::Answer;
 use std::alloc::Global;
-use std::io::{Cursor, ErrorKind, Read, SeekFrom};
+use std::io::{Cursor, ErrorKind, SeekFrom};
 use std::test::Fail;
 use tests_common::{
-    Source, Target, kind, line_writer, reader, reader_under, taken, taken_lines, target, writer,
-    writer_under,
+    Source, Target, flushes, kind, line_writer, read, reader, reader_under, taken, taken_lines,
+    target, write, writer, writer_under,
 };
 
 type Answered = Result<usize, ErrorKind>;
@@ -23,25 +24,21 @@ fn looks<R: TellRead>(rdr: &mut BufReader<R, MinBuffered>) -> [Answered; 4] {
     [
         kind(laws::look_ahead(rdr)),
         kind(laws::look_ahead(rdr)),
-        kind(rdr.read(&mut out)),
-        kind(rdr.read(&mut out)),
+        kind(read(rdr, &mut out)),
+        kind(read(rdr, &mut out)),
     ]
 }
 
-fn looks_ahead(alloc: Global) -> Result<[Answered; 4], Fail> {
+#[test]
+fn ahead(rt: HostRuntime) -> Result<(), Fail> {
     let script = [
         Answer::Serve(1),
         Answer::Fail(ErrorKind::TimedOut),
         Answer::Serve(1),
         Answer::Serve(1),
     ];
-    let rdr = of_four(alloc, &[], &[1, 2, 3], &script)?;
-    Ok(looks(&mut reader_under(rdr, MinBuffered(3))))
-}
-
-#[test]
-fn ahead(rt: HostRuntime) -> Result<(), Fail> {
-    let came = looks_ahead(rt.alloc())?;
+    let rdr = of_four(rt.alloc(), &[], &[1, 2, 3], &script)?;
+    let came = looks(&mut reader_under(rdr, MinBuffered(3)));
     assert!(rt; came == [Err(ErrorKind::TimedOut), Ok(3), Ok(3), Ok(0)]);
     Ok(())
 }
@@ -60,32 +57,74 @@ fn spares<R: TellSeek>(
 fn spared(rt: HostRuntime) -> Result<(), Fail> {
     let text = Told::new(Cursor::new([1, 2, 3, 4].as_slice()));
     let mut rdr = reader_under(reader(rt.alloc(), 6, &[], text)?, MinBuffered(2));
-    assert!(rt; spares(&mut rdr, 9, SeekFrom::Start(3)) == (Ok(3), 1, 15));
+    let came = [
+        spares(&mut rdr, 9, SeekFrom::Start(3)),
+        spares(&mut rdr, usize::MAX, SeekFrom::Start(0)),
+        spares(&mut rdr, 0, SeekFrom::End(-9)),
+    ];
     let refused = (Err(ErrorKind::InvalidInput), 1, 15);
-    assert!(rt; spares(&mut rdr, usize::MAX, SeekFrom::Start(0)) == refused);
-    assert!(rt; spares(&mut rdr, 0, SeekFrom::End(-9)) == refused);
+    assert!(rt; came == [(Ok(3), 1, 15), refused, refused]);
     Ok(drop(rdr))
 }
 
-// What is buffered in a reader that was taken apart and built again, and then once more under a policy that looks ahead.
+// What is buffered in a reader that was taken apart and built again under a policy that looks ahead; what is read past it; and
+// the minimum.
 fn rebuilt(rdr: BufReader<Source>) -> bool {
-    let again = laws::rebuild_reader_under(rdr, StdPolicy);
-    let held = again.buf_len();
-    let under = laws::rebuild_reader_under(again, MinBuffered(3));
-    (held, under.buf_len(), under.policy().0) == (2, 2, 3)
+    let mut rdr = laws::rebuild_reader_under(rdr, MinBuffered(7));
+    let mut out = [0; 2];
+    let past = kind(read(rdr.get_mut().get_mut(), &mut out));
+    (past, out, rdr.buffer(), rdr.policy().0) == (Ok(2), [2, 3], [1].as_slice(), 7)
 }
 
+// The same of a writer, whose policy is changed, and serves the next write.
 fn rebuilt_writer(wrt: BufWriter<Target>) -> bool {
-    let again = laws::rebuild_writer_under(wrt, StdPolicy);
-    let held = again.buf_len();
-    let under = laws::rebuild_writer_under(again, FlushAtLeast(3));
-    (held, under.buf_len(), under.policy().0, taken(&under).len()) == (2, 2, 3, 0)
+    let mut wrt = laws::rebuild_writer_under(wrt, FlushAtLeast(9));
+    let was = (wrt.policy().0, wrt.buf_len(), taken(&wrt).len());
+    wrt.policy_mut().0 = 2;
+    let count = kind(write(&mut wrt, &[2]));
+    was == (9, 1, 0) && count == Ok(1) && taken(&wrt) == [1, 2].as_slice()
 }
 
 #[test]
 fn built_again(rt: HostRuntime) -> Result<(), Fail> {
-    assert!(rt; rebuilt(of_four(rt.alloc(), &[1, 2], &[], &[])?));
-    assert!(rt; rebuilt_writer(writer(rt.alloc(), 4, &[1, 2], target(rt.alloc(), &[])?)?));
+    assert!(rt; rebuilt(of_four(rt.alloc(), &[1], &[2, 3], &[])?));
+    assert!(rt; rebuilt_writer(writer(rt.alloc(), 16, &[1], target(rt.alloc(), &[])?)?));
+    Ok(())
+}
+
+// Puts bytes in where they fit.
+fn puts<W: TellWrite>(wrt: &mut BufWriter<W>, bytes: &[u8]) -> bool {
+    wrt.make_room();
+    let fits = bytes.len() <= wrt.capacity().saturating_sub(wrt.buf_len());
+    if fits {
+        wrt.put(bytes);
+    }
+    fits
+}
+
+// Whether a send returns this, and so many bytes are received then, and so many buffered.
+fn sends(
+    wrt: &mut BufWriter<Target>,
+    answer: Result<(), ErrorKind>,
+    received: usize,
+    left: usize,
+) -> bool {
+    kind(wrt.send()) == answer && taken(wrt).len() == received && wrt.buf_len() == left
+}
+
+// Two bytes fit behind one, and two more don't. The first send fails, and the next goes on. Nothing is flushed.
+fn is_sent(wrt: &mut BufWriter<Target>) -> bool {
+    puts(wrt, &[2, 3])
+        && !puts(wrt, &[4, 5])
+        && sends(wrt, Err(ErrorKind::TimedOut), 1, 2)
+        && sends(wrt, Ok(()), 3, 0)
+        && flushes(wrt) == 0
+}
+
+#[test]
+fn sent_by_hand(rt: HostRuntime) -> Result<(), Fail> {
+    let script = [Answer::Serve(1), Answer::Fail(ErrorKind::TimedOut)];
+    assert!(rt; is_sent(&mut writer(rt.alloc(), 4, &[1], target(rt.alloc(), &script)?)?));
     Ok(())
 }
 
@@ -98,64 +137,56 @@ fn sent<P>(answer: Answered, wrt: &BufWriter<Target, P>) -> Sent {
     (answer, taken(wrt).len(), wrt.buf_len())
 }
 
-fn any(mut wrt: BufWriter<Target>) -> Sent {
-    let answer = kind(laws::write_law(&mut wrt, TEXT));
-    sent(answer, &wrt)
+fn any(wrt: &mut BufWriter<Target>) -> Sent {
+    let answer = kind(laws::write_law(wrt, TEXT));
+    sent(answer, wrt)
 }
 
-fn on_byte(mut wrt: BufWriter<Target, FlushOn>) -> Sent {
-    let answer = kind(laws::flush_on_law(&mut wrt, TEXT));
-    sent(answer, &wrt)
+fn on_byte(wrt: &mut BufWriter<Target, FlushOn>) -> Sent {
+    let answer = kind(laws::flush_on_law(wrt, TEXT));
+    sent(answer, wrt)
 }
 
-fn on_newline(mut wrt: BufWriter<Target, FlushOnNewline>) -> Sent {
-    let answer = kind(laws::flush_on_newline_law(&mut wrt, TEXT));
-    sent(answer, &wrt)
+fn on_newline(wrt: &mut BufWriter<Target, FlushOnNewline>) -> Sent {
+    let answer = kind(laws::flush_on_newline_law(wrt, TEXT));
+    sent(answer, wrt)
 }
 
-fn at_least(mut wrt: BufWriter<Target, FlushAtLeast>) -> Sent {
-    let answer = kind(laws::flush_at_least_law(&mut wrt, TEXT));
-    sent(answer, &wrt)
+fn at_least(wrt: &mut BufWriter<Target, FlushAtLeast>) -> Sent {
+    let answer = kind(laws::flush_at_least_law(wrt, TEXT));
+    sent(answer, wrt)
 }
 
-fn exact(mut wrt: BufWriter<Target, FlushExact>) -> Sent {
-    let answer = kind(laws::flush_exact_law(&mut wrt, TEXT));
-    sent(answer, &wrt)
+fn exact(wrt: &mut BufWriter<Target, FlushExact>) -> Sent {
+    let answer = kind(laws::flush_exact_law(wrt, TEXT));
+    sent(answer, wrt)
 }
 
-fn line(mut lines: LineWriter<Target>) -> Sent {
-    let answer = kind(laws::line_law(&mut lines, TEXT));
-    (answer, taken_lines(&lines).len(), lines.buf_len())
+fn line(lines: &mut LineWriter<Target>) -> Sent {
+    let answer = kind(laws::line_law(lines, TEXT));
+    (answer, taken_lines(lines).len(), lines.buf_len())
 }
 
-fn under<P: WriterPolicy + Drop>(
-    alloc: Global,
-    held: &[u8],
-    script: &[Answer],
-    policy: P,
-) -> Result<BufWriter<Target, P>, Fail> {
-    let wrt = writer(alloc, 8, held, target(alloc, script)?)?;
-    Ok(writer_under(wrt, policy))
+// Over an empty buffer of capacity 8.
+fn under<P: WriterPolicy + Drop>(alloc: Global, policy: P) -> Result<BufWriter<Target, P>, Fail> {
+    Ok(writer_under(writer(alloc, 8, &[], target(alloc, &[])?)?, policy))
 }
 
-// Over a buffer of capacity 8 that holds so much.
-fn each(alloc: Global, held: &[u8], script: &[Answer]) -> Result<[Sent; 6], Fail> {
+fn each(alloc: Global) -> Result<[Sent; 6], Fail> {
     Ok([
-        any(writer(alloc, 8, held, target(alloc, script)?)?),
-        on_byte(under(alloc, held, script, FlushOn(b'b'))?),
-        on_newline(under(alloc, held, script, FlushOnNewline)?),
-        at_least(under(alloc, held, script, FlushAtLeast(3))?),
-        exact(under(alloc, held, script, FlushExact(4))?),
-        line(line_writer(alloc, 8, held, target(alloc, script)?)?),
+        any(&mut under(alloc, StdPolicy)?),
+        on_byte(&mut under(alloc, FlushOn(b'b'))?),
+        on_newline(&mut under(alloc, FlushOnNewline)?),
+        at_least(&mut under(alloc, FlushAtLeast(3))?),
+        exact(&mut under(alloc, FlushExact(4))?),
+        line(&mut line_writer(alloc, 8, &[], target(alloc, &[])?)?),
     ])
 }
 
-const REFUSED: Sent = (Err(ErrorKind::Other), 0, 4);
-
-// What a write leaves where all fits, and where what is held has to be sent first and can't be.
+// What a write leaves where all fits. Others are lines of the program `replay`.
 #[test]
 fn written(rt: HostRuntime) -> Result<(), Fail> {
-    let came = each(rt.alloc(), &[], &[])?;
+    let came = each(rt.alloc())?;
     assert!(rt;
         came == [
             (Ok(5), 0, 5),
@@ -166,7 +197,5 @@ fn written(rt: HostRuntime) -> Result<(), Fail> {
             (Ok(5), 3, 2)
         ]
     );
-    let came = each(rt.alloc(), b"wxyz", &[Answer::Fail(ErrorKind::Other)])?;
-    assert!(rt; came == [REFUSED; 6]);
     Ok(())
 }

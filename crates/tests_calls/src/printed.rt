@@ -1,12 +1,17 @@
-//! What is printed of buffers, of readers and writers, and of a refusal.
+//! What is printed of buffers, of readers and writers, of policies, and of a refusal.
 use buffer_redux::policy::{
     FlushAtLeast, FlushExact, FlushOn, FlushOnNewline, MinBuffered, StdPolicy,
 };
 use buffer_redux::tell::Told;
-use buffer_redux::{BufReader, Count, GrowError, Unbuffer};
-use std::alloc::Global;
+use buffer_redux::{BufReader, Count, GrowError};
+use std::alloc::{AllocError, Global};
+use std::fmt::Debug;
 use std::test::Fail;
 use tests_common::{display, holding, line_writer, reader, reader_under, shown};
+
+fn prints<T: Debug + Drop>(alloc: Global, value: T, text: &str) -> Result<bool, AllocError> {
+    Ok(shown(alloc, value)?.as_str() == text)
+}
 
 #[test]
 fn refusals(rt: HostRuntime) -> Result<(), Fail> {
@@ -19,65 +24,53 @@ fn refusals(rt: HostRuntime) -> Result<(), Fail> {
     Ok(())
 }
 
-#[test]
-fn buffers(rt: HostRuntime) -> Result<(), Fail> {
-    let text = shown(rt.alloc(), holding(rt.alloc(), 4, &[7])?)?;
-    assert!(rt; text.as_str() == "buffer_redux::Buffer { capacity: 4, len: 1 }");
-    Ok(())
-}
-
-// What policies are by default.
-#[test]
-fn policies(rt: HostRuntime) -> Result<(), Fail> {
-    assert!(rt; shown(rt.alloc(), StdPolicy::default())?.as_str() == "StdPolicy");
-    assert!(rt; shown(rt.alloc(), FlushAtLeast::default())?.as_str() == "FlushAtLeast(0)");
-    assert!(rt; shown(rt.alloc(), FlushExact::default())?.as_str() == "FlushExact(0)");
-    assert!(rt; shown(rt.alloc(), FlushOn::default())?.as_str() == "FlushOn(0)");
-    assert!(rt; shown(rt.alloc(), FlushOnNewline::default())?.as_str() == "FlushOnNewline");
-    Ok(())
-}
-
-// A count that contracts alone see has nothing to print.
-#[test]
-fn counts(rt: HostRuntime) -> Result<(), Fail> {
+// A count, which contracts alone see, has nothing to print.
+fn counted() -> Count {
     let mut count = Count::zero();
     count.add(7);
-    assert!(rt; shown(rt.alloc(), count)?.as_str() == "Count");
+    count
+}
+
+// Policies by default, and a count.
+#[test]
+fn policies(rt: HostRuntime) -> Result<(), Fail> {
+    let flushing = (
+        FlushAtLeast::default(),
+        FlushExact::default(),
+        FlushOn::default(),
+    );
+    let others = (StdPolicy::default(), FlushOnNewline::default(), counted());
+    let text = "(FlushAtLeast(0), FlushExact(0), FlushOn(0))";
+    assert!(rt; prints(rt.alloc(), flushing, text)?);
+    assert!(rt; prints(rt.alloc(), others, "(StdPolicy, FlushOnNewline, Count)")?);
     Ok(())
 }
 
-type Bytes = Told<&'static [u8]>;
-
 // A reader of one byte that is buffered, and one behind it.
-fn reader_of_two(alloc: Global) -> Result<BufReader<Bytes>, GrowError> {
+fn reader_of_two(alloc: Global) -> Result<BufReader<Told<&'static [u8]>>, GrowError> {
     reader(alloc, 4, &[1], Told::new([2].as_slice()))
 }
 
-fn unbuffered(alloc: Global) -> Result<Unbuffer<Bytes>, GrowError> {
-    Ok(reader_of_two(alloc)?.unbuffer())
-}
-
 #[test]
-fn readers(rt: HostRuntime) -> Result<(), Fail> {
-    let ahead = reader_under(reader_of_two(rt.alloc())?, MinBuffered(2));
-    let text = shown(rt.alloc(), ahead)?;
+fn buffers(rt: HostRuntime) -> Result<(), Fail> {
+    let alloc = rt.alloc();
+    let text = "buffer_redux::Buffer { capacity: 4, len: 1 }";
+    assert!(rt; prints(alloc, holding(alloc, 4, &[7])?, text)?);
+    let text =
+        "buffer_redux::BufReader { reader: Told { stream: [2] }, buf_len: 1, capacity: 4, policy: MinBuffered(2) }";
     assert!(rt;
-        text.as_str()
-            == "buffer_redux::BufReader { reader: Told { stream: [2] }, buf_len: 1, capacity: 4, policy: MinBuffered(2) }"
+        prints(
+            alloc,
+            reader_under(reader_of_two(alloc)?, MinBuffered(2)),
+            text
+        )?
     );
-    let text = shown(rt.alloc(), unbuffered(rt.alloc())?)?;
-    assert!(rt; text.as_str() == "buffer_redux::Unbuffer { inner: Told { stream: [2] }, left: 1 }");
-    Ok(())
-}
-
-#[test]
-fn writers(rt: HostRuntime) -> Result<(), Fail> {
-    let lines = line_writer(rt.alloc(), 4, b"a\nb", Told::new(Vec::new(rt.alloc())))?;
-    let text = shown(rt.alloc(), lines)?;
-    assert!(rt;
-        text.as_str()
-            == "LineWriter { writer: buffer_redux::BufWriter { writer: Told { stream: [] }, buf_len: 3, capacity: 4, \
-policy: FlushOnNewline } }"
-    );
+    let text = "buffer_redux::Unbuffer { inner: Told { stream: [2] }, left: 1 }";
+    assert!(rt; prints(alloc, reader_of_two(alloc)?.unbuffer(), text)?);
+    let text =
+        "LineWriter { writer: buffer_redux::BufWriter { writer: Told { stream: [] }, buf_len: 3, capacity: 4, \
+policy: FlushOnNewline } }";
+    let lines = line_writer(alloc, 4, b"a\nb", Told::new(Vec::new(alloc)))?;
+    assert!(rt; prints(alloc, lines, text)?);
     Ok(())
 }

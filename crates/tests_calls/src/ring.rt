@@ -1,8 +1,6 @@
 //! When the bytes of a ring move, as its head shows, which is printed.
 use redux_buffer::SliceDequeBuf;
-use redux_buffer::tell::{TellRead, Told};
 use std::alloc::{AllocError, Global};
-use std::io;
 use std::test::Fail;
 use tests_common::debug;
 
@@ -61,13 +59,28 @@ const AT_THE_CAPACITY: &'static [Row] = &[
     (Step::Consume(3999), "head: 0,", 0, 4096),
 ];
 
+// 16384 bytes in takes of all that fits, with a consume of 4000 behind each. The third and the fifth take move 96 bytes each.
+const TAKES: &'static [Row] = &[
+    (Step::Take(9, 4096), "head: 0,", 4096, 0),
+    (Step::Consume(4000), "head: 4000,", 96, 4000),
+    (Step::Take(9, 4000), "head: 4000,", 4096, 0),
+    (Step::Consume(4000), "head: 8000,", 96, 4000),
+    (Step::Take(9, 4000), "head: 0,", 4096, 0),
+    (Step::Consume(4000), "head: 4000,", 96, 4000),
+    (Step::Take(9, 4000), "head: 4000,", 4096, 0),
+    (Step::Consume(4000), "head: 8000,", 96, 4000),
+    (Step::Take(9, 288), "head: 0,", 384, 3712),
+    (Step::Consume(4000), "head: 0,", 0, 4096),
+];
+
 // Steps, and the bytes in front at their end.
 type Walk = (&'static [Row], &'static [u8]);
 
-static WALKS: [Walk; 3] = [
+static WALKS: [Walk; 4] = [
     (EMPTIED, &[]),
     (WRITTEN_WITHOUT_A_LOAN, &[8; 96]),
     (AT_THE_CAPACITY, &[]),
+    (TAKES, &[]),
 ];
 
 // Whether the ring is so behind this step.
@@ -95,40 +108,6 @@ fn heads(rt: HostRuntime) -> Result<(), Fail> {
     for walk in &WALKS {
         let wrong = wrong_behind(rt.alloc(), walk)?;
         assert!(rt; wrong.is_none(), "at {wrong:?}");
-    }
-    Ok(())
-}
-
-// Of reads of all that fits, with a consume of 4000 bytes behind each: how many bytes came, and where the first stands behind the
-// read and behind the consume. The third and the fifth read move 96 bytes each.
-static READS: [(usize, &str, &str); 6] = [
-    (4096, "head: 0,", "head: 4000,"),
-    (4000, "head: 4000,", "head: 8000,"),
-    (4000, "head: 0,", "head: 4000,"),
-    (4000, "head: 4000,", "head: 8000,"),
-    (288, "head: 0,", "head: 0,"),
-    (0, "head: 0,", "head: 0,"),
-];
-
-fn take_in<R: TellRead>(ring: &mut SliceDequeBuf, rdr: &mut R) -> io::Result<usize> {
-    let n = rdr.read_told(ring.write_buf())?;
-    ring.bytes_written(n);
-    Ok(n)
-}
-
-// Whether the first byte stands there.
-fn stands(alloc: Global, ring: &SliceDequeBuf, head: &str) -> Result<bool, AllocError> {
-    Ok(debug(alloc, ring)?.contains(head))
-}
-
-#[test]
-fn heads_of_reads(rt: HostRuntime) -> Result<(), Fail> {
-    let mut ring = SliceDequeBuf::with_capacity(rt.alloc(), 4096)?;
-    let mut rdr = Told::new([9; 16384].as_slice());
-    for (count, read, consumed) in READS {
-        assert!(rt; take_in(&mut ring, &mut rdr)? == count && stands(rt.alloc(), &ring, read)?);
-        ring.consume(4000);
-        assert!(rt; stands(rt.alloc(), &ring, consumed)?);
     }
     Ok(())
 }

@@ -1,15 +1,12 @@
 //! Readers and writers that seek.
-use buffer_redux::tell::{Tell, TellRead, TellSeek, TellWrite, Told};
+use buffer_redux::tell::{TellRead, TellSeek, TellWrite, Told};
 use buffer_redux::{BufReader, BufWriter, Buffer, GrowError, seek_plan};
 use redux_script::{Answer, FaultAt};
 use std::alloc::{AllocError, Global};
-use std::io;
 use std::io::SeekFrom::{Current, End, Start};
 use std::io::{Cursor, ErrorKind, Read, Seek, SeekFrom};
 use std::test::Fail;
-use tests_common::{
-    Positions, consume, debug, empty, fill_buf, kind, reader, seek, write_all, writer,
-};
+use tests_common::{Positions, consume, debug, empty, fill_buf, kind, seek, write_all, writer};
 
 const HALF: i64 = 4611686018427387904;
 
@@ -38,8 +35,7 @@ fn plan(alloc: Global, to: SeekFrom, len: usize) -> Result<String, AllocError> {
 #[test]
 fn plans(rt: HostRuntime) -> Result<(), Fail> {
     for &(to, len, text) in &PLANS {
-        let came = plan(rt.alloc(), to, len)?;
-        assert!(rt; came.as_str() == text, "{came}");
+        assert!(rt; plan(rt.alloc(), to, len)?.as_str() == text, "{text}");
     }
     Ok(())
 }
@@ -53,6 +49,74 @@ enum Step {
     Consume(usize),
 }
 
+// How many calls of the stream come before one that fails, the steps, how many calls there were, and how many bytes are left.
+type Row = (usize, &'static [Step], usize, usize);
+
+// Over two bytes and a cursor.
+static PLAIN: Row = (
+    usize::MAX,
+    &[
+        Step::Seek(Start(3), Ok(3)),
+        Step::Fill(&[0, 1]),
+        Step::Seek(Current(0), Ok(3)),
+        Step::Fill(&[0, 1]),
+        Step::Seek(Current(1), Ok(4)),
+        Step::Fill(&[1, 2]),
+        Step::Consume(1),
+        Step::Seek(Current(-2), Ok(3)),
+    ],
+    7,
+    0,
+);
+
+// Over a ring and a cursor.
+static RING: Row = (
+    usize::MAX,
+    &[
+        Step::Seek(Start(3), Ok(3)),
+        Step::Fill(&[0, 1, 2, 3, 4]),
+        Step::Seek(Current(0), Ok(3)),
+        Step::Fill(&[0, 1, 2, 3, 4]),
+        Step::Seek(Current(1), Ok(4)),
+        Step::Fill(&[1, 2, 3, 4]),
+        Step::Consume(1),
+        Step::Seek(Current(-2), Ok(3)),
+        Step::Fill(&[0, 1, 2, 3, 4]),
+    ],
+    8,
+    5,
+);
+
+const SHOWN: Step = Step::Fill(&[0, 1, 2, 3, 4]);
+
+const FAILS: Step = Step::Seek(Current(i64::MIN), Err(ErrorKind::TimedOut));
+
+// Over five bytes and positions. A seek by the least offset is two, of which the first fails, or the second.
+static ROWS: [Row; 5] = [
+    (
+        usize::MAX,
+        &[
+            Step::Fill(&[0, 1, 2, 3, 4]),
+            Step::Seek(End(-5), Ok(18446744073709551610)),
+            Step::Fill(&[250, 251, 252, 253, 254]),
+            Step::Seek(Current(i64::MIN), Ok(9223372036854775802)),
+            Step::Fill(&[250, 251, 252, 253, 254]),
+            Step::Seek(Current(0), Ok(9223372036854775802)),
+        ],
+        7,
+        0,
+    ),
+    (9, &[SHOWN, Step::Seek(Start(3), Ok(3))], 2, 0),
+    (
+        9,
+        &[SHOWN, Step::Consume(3), Step::Seek(Current(1), Ok(4))],
+        2,
+        0,
+    ),
+    (1, &[SHOWN, FAILS], 2, 5),
+    (2, &[SHOWN, FAILS], 3, 0),
+];
+
 // Whether a step comes to what it says.
 fn is_so<R: TellRead + TellSeek>(rdr: &mut BufReader<R>, step: &Step) -> bool {
     match *step {
@@ -65,248 +129,142 @@ fn is_so<R: TellRead + TellSeek>(rdr: &mut BufReader<R>, step: &Step) -> bool {
     }
 }
 
-// Whether all steps do.
-fn walks<R: TellRead + TellSeek>(rdr: &mut BufReader<R>, steps: &[Step]) -> bool {
+type Faulty<S> = Told<FaultAt<S>>;
+
+// A stream whose call after so many others fails.
+fn faulty<S>(stream: S, before: usize) -> Faulty<S> {
+    Told::new(FaultAt::new(stream, before, Answer::Fail(ErrorKind::TimedOut)))
+}
+
+fn walks<S: Read + Seek>(rdr: &mut BufReader<Faulty<S>>, row: &Row) -> bool {
+    let &(_, steps, calls, left) = row;
     for step in steps {
         if !is_so(rdr, step) {
             return false;
         }
     }
-    true
+    (rdr.get_ref().get_ref().calls(), rdr.buf_len()) == (calls, left)
 }
 
-type Text = Told<Cursor<&'static [u8]>>;
-
-fn text() -> Text {
-    Told::new(Cursor::new([5, 6, 7, 0, 1, 2, 3, 4].as_slice()))
+// Whether a reader over this buffer and this stream goes as its row says.
+fn goes<S: Read + Seek + Drop>(buf: Buffer, stream: S, row: &Row) -> bool {
+    walks(&mut BufReader::with_buffer(buf, faulty(stream, row.0)), row)
 }
 
-static PLAIN: [Step; 8] = [
-    Step::Seek(Start(3), Ok(3)),
-    Step::Fill(&[0, 1]),
-    Step::Seek(Current(0), Ok(3)),
-    Step::Fill(&[0, 1]),
-    Step::Seek(Current(1), Ok(4)),
-    Step::Fill(&[1, 2]),
-    Step::Consume(1),
-    Step::Seek(Current(-2), Ok(3)),
-];
-
-static RING: [Step; 9] = [
-    Step::Seek(Start(3), Ok(3)),
-    Step::Fill(&[0, 1, 2, 3, 4]),
-    Step::Seek(Current(0), Ok(3)),
-    Step::Fill(&[0, 1, 2, 3, 4]),
-    Step::Seek(Current(1), Ok(4)),
-    Step::Fill(&[1, 2, 3, 4]),
-    Step::Consume(1),
-    Step::Seek(Current(-2), Ok(3)),
-    Step::Fill(&[0, 1, 2, 3, 4]),
-];
-
-// A reader over this buffer, which promises nothing.
-fn reader_over<R: Tell + Drop>(buf: Buffer, inner: R) -> BufReader<R> {
-    BufReader::with_buffer(buf, inner)
-}
-
-fn walks_in_text(buf: Buffer, steps: &[Step]) -> bool {
-    walks(&mut reader_over(buf, text()), steps)
+fn text() -> Cursor<&'static [u8]> {
+    Cursor::new([5, 6, 7, 0, 1, 2, 3, 4].as_slice())
 }
 
 #[test]
-fn in_a_cursor(rt: HostRuntime) -> Result<(), Fail> {
-    assert!(rt; walks_in_text(empty(rt.alloc(), false, 2)?, &PLAIN));
-    assert!(rt; walks_in_text(empty(rt.alloc(), true, 8192)?, &RING));
-    Ok(())
-}
-
-// Positions that note where they are asked to go. The seek after so many others fails.
-#[derive(Drop)]
-struct Noting {
-    stream: Positions,
-    targets: Vec<SeekFrom>,
-    before_fault: usize,
-}
-
-impl Read for Noting {
-    fn read(&mut self, buf: &mut [u8]) -> io::Result<usize> {
-        self.stream.read(buf)
-    }
-}
-
-impl Seek for Noting {
-    fn seek(&mut self, to: SeekFrom) -> io::Result<u64> {
-        let count = self.targets.len();
-        self.targets.push(to)?;
-        if count == self.before_fault {
-            return Err(io::Error::from(ErrorKind::TimedOut));
-        }
-        self.stream.seek(to)
-    }
-}
-
-// How many seeks come before the one that fails, the steps over a buffer of capacity 5, where the stream was asked to go, and
-// how many bytes are left.
-type Row = (usize, &'static [Step], &'static [SeekFrom], usize);
-
-const SHOWN: Step = Step::Fill(&[0, 1, 2, 3, 4]);
-
-const FAILS: Step = Step::Seek(Current(i64::MIN), Err(ErrorKind::TimedOut));
-
-static ROWS: [Row; 5] = [
-    (
-        usize::MAX,
-        &[
-            Step::Fill(&[0, 1, 2, 3, 4]),
-            Step::Seek(End(-5), Ok(18446744073709551610)),
-            Step::Fill(&[250, 251, 252, 253, 254]),
-            Step::Seek(Current(i64::MIN), Ok(9223372036854775802)),
-            Step::Fill(&[250, 251, 252, 253, 254]),
-            Step::Seek(Current(0), Ok(9223372036854775802)),
-        ],
-        &[End(-5), Current(-5), Current(i64::MIN), Current(-5)],
-        0,
-    ),
-    (9, &[SHOWN, Step::Seek(Start(3), Ok(3))], &[Start(3)], 0),
-    (
-        9,
-        &[SHOWN, Step::Consume(3), Step::Seek(Current(1), Ok(4))],
-        &[Current(-1)],
-        0,
-    ),
-    (0, &[SHOWN, FAILS], &[Current(-5)], 5),
-    (1, &[SHOWN, FAILS], &[Current(-5), Current(i64::MIN)], 0),
-];
-
-// Whether a reader goes as its row says.
-fn goes(rdr: &mut BufReader<Told<Noting>>, row: &Row) -> bool {
-    let &(_, steps, targets, left) = row;
-    walks(rdr, steps)
-        && rdr.get_ref().get_ref().targets.as_slice() == targets
-        && rdr.buf_len() == left
-}
-
-fn goes_in_positions(alloc: Global, row: &Row) -> Result<bool, GrowError> {
-    let inner = Noting {
-        stream: Positions { at: 0 },
-        targets: Vec::new(alloc),
-        before_fault: row.0,
-    };
-    let mut rdr = reader(alloc, 5, &[], Told::new(inner))?;
-    Ok(goes(&mut rdr, row))
-}
-
-#[test]
-fn as_planned(rt: HostRuntime) -> Result<(), Fail> {
+fn of_a_reader(rt: HostRuntime) -> Result<(), Fail> {
+    assert!(rt; goes(empty(rt.alloc(), false, 2)?, text(), &PLAIN));
+    assert!(rt; goes(empty(rt.alloc(), true, 8192)?, text(), &RING));
     for row in &ROWS {
-        assert!(rt; goes_in_positions(rt.alloc(), row)?, "{:?}", row.2);
+        assert!(rt;
+            goes(empty(rt.alloc(), false, 5)?, Positions { at: 0 }, row),
+            "{:?}",
+            row.2
+        );
     }
     Ok(())
 }
 
-type Place = Told<FaultAt<Cursor<Vec<u8>>>>;
-
-// A writer over a vector, whose call after so many others fails.
-fn placed(
-    alloc: Global,
-    capacity: usize,
-    held: &[u8],
-    before: usize,
-) -> Result<BufWriter<Place>, GrowError> {
-    let fault = Answer::Fail(ErrorKind::BrokenPipe);
-    let inner = FaultAt::new(Cursor::new(Vec::new(alloc)), before, fault);
-    writer(alloc, capacity, held, Told::new(inner))
+#[derive(Clone, Copy)]
+enum Call {
+    Write(&'static [u8]),
+    // a seek, and what it returns
+    Seek(SeekFrom, Result<u64, ErrorKind>),
+    Rewind,
+    Relative(i64),
+    // where it stands
+    Position(u64),
 }
 
-fn in_place(inner: &Place) -> &[u8] {
-    inner.get_ref().get_ref().get_ref().as_slice()
+// The capacity, what is held, how many calls of the stream come before one that fails, the calls, and then what is in the stream,
+// how many calls it had, and how many bytes are buffered.
+type Written = (
+    usize,
+    &'static [u8],
+    usize,
+    &'static [Call],
+    &'static [u8],
+    usize,
+    usize,
+);
+
+const LASTS: usize = usize::MAX;
+
+const FIRST: &'static [Call] = &[
+    Call::Write(&[0, 1, 2, 3, 4, 5]),
+    Call::Write(&[6, 7]),
+    Call::Seek(Current(0), Ok(8)),
+];
+
+const BEHIND: &'static [Call] = &[
+    Call::Write(&[0, 1, 2, 3, 4, 5]),
+    Call::Write(&[6, 7]),
+    Call::Seek(Current(0), Ok(8)),
+    Call::Seek(Start(2), Ok(2)),
+    Call::Write(&[8, 9]),
+    Call::Position(4),
+];
+
+const ABOUT: &'static [Call] = &[
+    Call::Write(&[0, 1, 2, 3, 4]),
+    Call::Rewind,
+    Call::Write(&[9]),
+    Call::Relative(2),
+    Call::Write(&[8]),
+    Call::Position(4),
+];
+
+const TO_FIVE: &'static [Call] = &[Call::Seek(Start(5), Ok(5))];
+
+const IN_VAIN: &'static [Call] = &[Call::Seek(Start(5), Err(ErrorKind::TimedOut))];
+
+// A seek comes behind a flush, and none where that fails.
+static WRITTEN: [Written; 7] = [
+    (3, &[], LASTS, FIRST, &[0, 1, 2, 3, 4, 5, 6, 7], 4, 0),
+    (3, &[], LASTS, BEHIND, &[0, 1, 8, 9, 4, 5, 6, 7], 9, 0),
+    (3, &[], LASTS, ABOUT, &[9, 1, 2, 8, 4], 9, 0),
+    (4, &[1, 2, 3], LASTS, TO_FIVE, &[1, 2, 3], 3, 0),
+    (4, &[1, 2, 3], 2, IN_VAIN, &[1, 2, 3], 3, 0),
+    (4, &[1, 2, 3], 1, IN_VAIN, &[1, 2, 3], 2, 0),
+    (4, &[1, 2, 3], 0, IN_VAIN, &[], 1, 3),
+];
+
+// Whether a call comes to what it says.
+fn comes<W: TellWrite + TellSeek>(wrt: &mut BufWriter<W>, call: &Call) -> bool {
+    match *call {
+        Call::Write(bytes) => kind(write_all(wrt, bytes)) == Ok(()),
+        Call::Seek(to, answer) => kind(seek(wrt, to)) == answer,
+        Call::Rewind => kind(wrt.rewind()) == Ok(()),
+        Call::Relative(offset) => kind(wrt.seek_relative(offset)) == Ok(()),
+        Call::Position(at) => kind(wrt.stream_position()) == Ok(at),
+    }
 }
 
-// What is there, how many calls there were, and how many bytes are buffered.
-fn content(wrt: &BufWriter<Place>) -> (&[u8], usize, usize) {
-    let inner = wrt.get_ref();
-    (in_place(inner), inner.get_ref().calls(), wrt.buf_len())
+fn writes(wrt: &mut BufWriter<Faulty<Cursor<Vec<u8>>>>, row: &Written) -> bool {
+    let &(_, _, _, calls, content, count, left) = row;
+    for call in calls {
+        if !comes(wrt, call) {
+            return false;
+        }
+    }
+    let stream = wrt.get_ref().get_ref();
+    stream.get_ref().get_ref().as_slice() == content
+        && (stream.calls(), wrt.buf_len()) == (count, left)
 }
 
-fn writes<W: TellWrite + TellSeek>(wrt: &mut BufWriter<W>) -> io::Result<u64> {
-    write_all(wrt, &[0, 1, 2, 3, 4, 5])?;
-    write_all(wrt, &[6, 7].as_slice())?;
-    seek(wrt, Current(0))
-}
-
-fn writes_between<W: TellWrite + TellSeek>(wrt: &mut BufWriter<W>) -> io::Result<u64> {
-    let at = seek(wrt, Start(2))?;
-    write_all(wrt, &[8, 9])?;
-    Ok(at)
-}
-
-// Whether the seeks say where they go, and the first one flushes.
-fn writes_in_place(wrt: &mut BufWriter<Place>) -> io::Result<bool> {
-    let at = writes(wrt)?;
-    let is_whole = content(wrt).0 == [0, 1, 2, 3, 4, 5, 6, 7].as_slice();
-    Ok((at, writes_between(wrt)?) == (8, 2) && is_whole)
-}
-
-fn leaves(wrt: BufWriter<Place>, bytes: &[u8]) -> io::Result<bool> {
-    Ok(in_place(&wrt.into_inner()?) == bytes)
+fn writes_in_place(alloc: Global, row: &Written) -> Result<bool, GrowError> {
+    let inner = faulty(Cursor::new(Vec::new(alloc)), row.2);
+    Ok(writes(&mut writer(alloc, row.0, row.1, inner)?, row))
 }
 
 #[test]
 fn of_a_writer(rt: HostRuntime) -> Result<(), Fail> {
-    let mut wrt = placed(rt.alloc(), 3, &[], usize::MAX)?;
-    assert!(rt; writes_in_place(&mut wrt)?);
-    assert!(rt; leaves(wrt, &[0, 1, 8, 9, 4, 5, 6, 7])?);
-    Ok(())
-}
-
-// Where the other calls of `Seek` go, each of which flushes first.
-fn goes_about<W: TellWrite + TellSeek>(wrt: &mut BufWriter<W>) -> io::Result<u64> {
-    write_all(wrt, &[0, 1, 2, 3, 4])?;
-    wrt.rewind()?;
-    write_all(wrt, &[9])?;
-    wrt.seek_relative(2)?;
-    write_all(wrt, &[8])?;
-    wrt.stream_position()
-}
-
-#[test]
-fn of_a_writer_about(rt: HostRuntime) -> Result<(), Fail> {
-    let mut wrt = placed(rt.alloc(), 3, &[], usize::MAX)?;
-    assert!(rt; kind(goes_about(&mut wrt)) == Ok(4));
-    assert!(rt; content(&wrt) == ([9, 1, 2, 8, 4].as_slice(), 9, 0));
-    Ok(drop(wrt))
-}
-
-// A seek comes after a flush, and none where that fails: which call fails, what the seek then returns, what the stream has,
-// and how many calls it had.
-type Vain = (usize, Result<u64, ErrorKind>, &'static [u8], usize);
-
-static IN_VAIN: [Vain; 4] = [
-    (9, Ok(5), &[1, 2, 3], 3),
-    (2, Err(ErrorKind::BrokenPipe), &[1, 2, 3], 3),
-    (1, Err(ErrorKind::BrokenPipe), &[1, 2, 3], 2),
-    (0, Err(ErrorKind::BrokenPipe), &[], 1),
-];
-
-fn seeks_to_five<W: TellWrite + TellSeek>(wrt: &mut BufWriter<W>) -> Result<u64, ErrorKind> {
-    kind(seek(wrt, Start(5)))
-}
-
-fn is_vain(wrt: &mut BufWriter<Place>, row: &Vain) -> bool {
-    let &(_, answer, held, calls) = row;
-    let left = 3usize.saturating_sub(held.len());
-    seeks_to_five(wrt) == answer && content(wrt) == (held, calls, left)
-}
-
-fn seeks_in_vain(alloc: Global, row: &Vain) -> Result<bool, GrowError> {
-    let mut wrt = placed(alloc, 4, &[1, 2, 3], row.0)?;
-    Ok(is_vain(&mut wrt, row))
-}
-
-#[test]
-fn of_a_writer_in_vain(rt: HostRuntime) -> Result<(), Fail> {
-    for row in &IN_VAIN {
-        assert!(rt; seeks_in_vain(rt.alloc(), row)?, "{:?}", row.1);
+    for (at, row) in WRITTEN.iter().enumerate() {
+        assert!(rt; writes_in_place(rt.alloc(), row)?, "{at}");
     }
     Ok(())
 }

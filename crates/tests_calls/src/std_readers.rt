@@ -9,8 +9,6 @@ use std::io::{BufRead, Cursor, ErrorKind, Read, Seek, SeekFrom};
 use std::test::Fail;
 use tests_common::{Source, kind, reader, source};
 
-type Text = BufReader<Told<Cursor<&'static [u8]>>>;
-
 // What the calls that append leave behind one another.
 fn appends<R: BufRead>(from: &mut R, line: &mut Vec<u8>) -> io::Result<usize> {
     let mut two = [0; 2];
@@ -39,41 +37,26 @@ fn text<R: BufRead>(from: &mut R, text: &mut String) -> io::Result<usize> {
     Ok(line)
 }
 
-// What each of these counts.
-fn reads<R: BufRead + Seek>(
-    from: &mut R,
-    line: &mut Vec<u8>,
-    all: &mut String,
-) -> io::Result<(usize, u64, usize)> {
-    let count = appends(from, line)?;
-    let at = seeks(from)?;
-    Ok((count, at, text(from, all)?))
-}
-
-fn is_left(from: &Text, line: &[u8], all: &str) -> bool {
-    from.buffer().is_empty()
-        && from.get_ref().get_ref().position() == 14
-        && line == b"d\nghac".as_slice()
-        && all == "cd\nef\nghijk\n"
-}
-
-fn through(alloc: Global, mut from: Text) -> bool {
+fn through<R: BufRead + Seek>(alloc: Global, from: &mut R) -> bool {
     let mut line = Vec::new(alloc);
     let mut all = String::new(alloc);
-    let counts = kind(reads(&mut from, &mut line, &mut all));
-    counts == Ok((6, 3, 3)) && is_left(&from, line.as_slice(), all.as_str())
+    let counts = (
+        kind(appends(from, &mut line)),
+        kind(seeks(from)),
+        kind(text(from, &mut all)),
+    );
+    counts == (Ok(6), Ok(3), Ok(3))
+        && line.as_slice() == b"d\nghac".as_slice()
+        && all.as_str() == "cd\nef\nghijk\n"
 }
 
 static TEXT: &[u8] = b"abcd\nef\nghijk\n";
 
-fn of_text(alloc: Global) -> Result<Text, Fail> {
-    Ok(reader(alloc, 4, &[], Told::new(Cursor::new(TEXT)))?)
-}
-
 #[test]
 fn read_as_stds_do(rt: HostRuntime) -> Result<(), Fail> {
-    assert!(rt; through(rt.alloc(), of_text(rt.alloc())?));
-    Ok(())
+    let mut from = reader(rt.alloc(), 4, &[], Told::new(Cursor::new(TEXT)))?;
+    assert!(rt; through(rt.alloc(), &mut from));
+    Ok(drop(from))
 }
 
 // These calls promise nothing here, since the rows look at each answer.

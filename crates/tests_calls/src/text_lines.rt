@@ -1,152 +1,47 @@
-//! A reader's own `read_line` over texts whose characters have up to four bytes: wherever a fill ends, whichever call of the
-//! stream fails, and wherever a byte is no UTF-8.
+//! A reader's own `read_line`, `lines` and `split`: texts whose characters have up to four bytes, wherever a fill ends; what is
+//! no UTF-8; and pieces that a fault comes into.
 use buffer_redux::tell::{TellRead, Told};
-use buffer_redux::{BufReader, GrowError};
-use redux_script::{Answer, FaultAt, ScriptReader};
+use buffer_redux::{BufReader, GrowError, Lines, Split};
+use redux_script::Answer;
 use std::alloc::Global;
 use std::io;
 use std::io::ErrorKind;
 use std::test::Fail;
-use tests_common::{holding, kind, reader};
+use tests_common::{Source, holding, kind, reader, source};
 
-pub type Faulty = Told<FaultAt<ScriptReader>>;
+// A reader over a buffer of this capacity, and a source that gives so many of these bytes in a read at the most.
+fn text(alloc: Global, sizes: (usize, usize), bytes: &[u8]) -> Result<BufReader<Source>, Fail> {
+    let source = source(alloc, bytes, &[Answer::ServeEach(sizes.1)])?;
+    Ok(reader(alloc, sizes.0, &[], source)?)
+}
 
-pub type Text = BufReader<Faulty>;
+// This call promises nothing here, since the rows look at each answer.
+fn line<R: TellRead>(rdr: &mut BufReader<R>, out: &mut String) -> Result<usize, ErrorKind> {
+    kind(rdr.read_line(out))
+}
 
 static TEXT: &str = "aé€😀b\n\n😀€é\n€";
 
 static LINES: [&str; 5] = ["aé€😀b\n", "\n", "😀€é\n", "€", ""];
 
-// A reader over a buffer of this capacity, and a stream that gives so many of these bytes in a read at the most, and whose call
-// after so many others answers otherwise.
-pub fn text(
-    alloc: Global,
-    sizes: (usize, usize),
-    bytes: &[u8],
-    fault: (usize, Answer),
-) -> Result<Text, Fail> {
-    let script = ScriptReader::new(alloc, bytes, &[Answer::ServeEach(sizes.1)])?;
-    let stream = Told::new(FaultAt::new(script, fault.0, fault.1));
-    Ok(reader(alloc, sizes.0, &[], stream)?)
-}
-
-// These calls promise nothing here, since the tests look at each answer.
-fn line<R: TellRead>(rdr: &mut BufReader<R>, out: &mut String) -> io::Result<usize> {
-    rdr.read_line(out)
-}
-
-fn until<R: TellRead>(rdr: &mut BufReader<R>, out: &mut Vec<u8>) -> io::Result<usize> {
-    rdr.read_until(b'\n', out)
-}
-
-// How often a call fails up to this line, of which each part stays appended where it is made again. Nothing where another comes.
-fn comes(rdr: &mut Text, out: &mut String, want: &str) -> Option<usize> {
-    out.clear();
-    match kind(line(rdr, out)) {
-        Ok(n) => (n == want.len() && out.as_str() == want).then_some(0),
-        Err(ErrorKind::WouldBlock) => {
-            (kind(line(rdr, out)).is_ok() && out.as_str() == want).then_some(1)
-        }
-        Err(_) => None,
-    }
-}
-
-fn all_come(alloc: Global, rdr: &mut Text) -> Option<usize> {
+fn all_come<R: TellRead>(alloc: Global, rdr: &mut BufReader<R>) -> bool {
     let mut out = String::new(alloc);
-    let mut failed = 0usize;
     for want in &LINES {
-        failed = failed.saturating_add(comes(rdr, &mut out, want)?);
+        out.clear();
+        if line(rdr, &mut out) != Ok(want.len()) || out.as_str() != *want {
+            return false;
+        }
     }
-    Some(failed)
+    true
 }
 
-/// Whether so many calls failed as met the fault, which comes once.
-pub fn is_told(rdr: &Text, fault: (usize, Answer), failed: usize) -> bool {
-    match (failed, fault.1) {
-        (0, Answer::Interrupt(_)) => true,
-        (0, _) => rdr.get_ref().get_ref().calls() <= fault.0,
-        (1, Answer::Fail(_)) => rdr.get_ref().get_ref().calls() > fault.0,
-        _ => false,
-    }
-}
-
-fn tells(alloc: Global, mut rdr: Text, fault: (usize, Answer)) -> bool {
-    match all_come(alloc, &mut rdr) {
-        Some(failed) => is_told(&rdr, fault, failed),
-        None => false,
-    }
-}
-
-pub const SIZES: [(usize, usize); 12] = [
-    (1, 1),
-    (2, 7),
-    (3, 2),
-    (4, 3),
-    (5, 7),
-    (6, 1),
-    (6, 2),
-    (7, 3),
-    (8, 7),
-    (40, 1),
-    (40, 3),
-    (40, 7),
-];
+const SIZES: [(usize, usize); 6] = [(1, 1), (2, 7), (3, 2), (6, 1), (8, 7), (40, 3)];
 
 #[test]
 fn wherever_a_fill_ends(rt: HostRuntime) -> Result<(), Fail> {
     for sizes in SIZES {
-        for before in 0..40 {
-            for answer in [Answer::Interrupt(64), Answer::Fail(ErrorKind::WouldBlock)] {
-                let fault = (before, answer);
-                let rdr = text(rt.alloc(), sizes, TEXT.as_bytes(), fault)?;
-                assert!(rt; tells(rt.alloc(), rdr, fault), "{:?} {:?}", sizes, fault);
-            }
-        }
-    }
-    Ok(())
-}
-
-const NEVER: (usize, Answer) = (18446744073709551615, Answer::Serve(0));
-
-// Whether all comes, each byte once, and one line is refused at this byte or before it, of which the rest is then taken.
-fn loses_nothing(alloc: Global, rdr: &mut Text, bytes: &[u8], at: usize) -> Result<bool, Fail> {
-    let mut all = Vec::new(alloc);
-    let mut refused = false;
-    for _ in 0..9 {
-        let mut out = String::new(alloc);
-        let answer = kind(line(rdr, &mut out));
-        all.extend_from_slice(out.as_bytes())?;
-        match answer {
-            Ok(0) => return Ok(refused && all.as_slice() == bytes),
-            Ok(_) => {}
-            Err(ErrorKind::InvalidData) => {
-                if refused || all.len() > at {
-                    return Ok(false);
-                }
-                refused = true;
-                until(rdr, &mut all)?;
-            }
-            Err(_) => return Ok(false),
-        }
-    }
-    Ok(false)
-}
-
-fn refuses(alloc: Global, sizes: (usize, usize), at: usize) -> Result<bool, Fail> {
-    let mut bytes = Vec::from_slice(alloc, TEXT.as_bytes())?;
-    if let Some(byte) = bytes.as_mut_slice().get_mut(at) {
-        *byte = 0xff;
-    }
-    let mut rdr = text(alloc, sizes, bytes.as_slice(), NEVER)?;
-    loses_nothing(alloc, &mut rdr, bytes.as_slice(), at)
-}
-
-#[test]
-fn no_utf8_at_each_place(rt: HostRuntime) -> Result<(), Fail> {
-    for sizes in SIZES {
-        for at in 0..TEXT.len() {
-            assert!(rt; refuses(rt.alloc(), sizes, at)?, "{:?} {}", sizes, at);
-        }
+        let mut rdr = text(rt.alloc(), sizes, TEXT.as_bytes())?;
+        assert!(rt; all_come(rt.alloc(), &mut rdr), "{sizes:?}");
     }
     Ok(())
 }
@@ -159,56 +54,33 @@ type Row = (
     &'static [u8],
 );
 
+const INVALID: Result<usize, ErrorKind> = Err(ErrorKind::InvalidData);
+
+// Of a line that is buffered nothing is appended, nor of a piece that no more bytes mend, as a line feed mends none.
 static ROWS: [Row; 9] = [
     (b"a", "a", Ok(1), b""),
-    (b"ab\xc3", "ab", Err(ErrorKind::InvalidData), b"\xc3"),
-    (b"a\xe2\x82", "a", Err(ErrorKind::InvalidData), b"\xe2\x82"),
-    (
-        b"\xf0\x9f\x98",
-        "",
-        Err(ErrorKind::InvalidData),
-        b"\xf0\x9f\x98",
-    ),
-    // Of a line that is buffered nothing is appended, nor of a piece that no more bytes mend.
-    (
-        b"ab\xffc\nd",
-        "",
-        Err(ErrorKind::InvalidData),
-        b"ab\xffc\nd",
-    ),
-    (b"ab\xffc", "", Err(ErrorKind::InvalidData), b"ab\xffc"),
-    (
-        b"a\xed\xa0\x80\n",
-        "",
-        Err(ErrorKind::InvalidData),
-        b"a\xed\xa0\x80\n",
-    ),
-    // A part of a character isn't mended by a line feed.
-    (
-        b"ab\xe2\x82\nc",
-        "",
-        Err(ErrorKind::InvalidData),
-        b"ab\xe2\x82\nc",
-    ),
+    (b"ab\xc3", "ab", INVALID, b"\xc3"),
+    (b"a\xe2\x82", "a", INVALID, b"\xe2\x82"),
+    (b"\xf0\x9f\x98", "", INVALID, b"\xf0\x9f\x98"),
+    (b"ab\xffc\nd", "", INVALID, b"ab\xffc\nd"),
+    (b"ab\xffc", "", INVALID, b"ab\xffc"),
+    (b"a\xed\xa0\x80\n", "", INVALID, b"a\xed\xa0\x80\n"),
+    (b"ab\xe2\x82\nc", "", INVALID, b"ab\xe2\x82\nc"),
     (b"\xc3\xa9\nc", "\u{e9}\n", Ok(3), b"c"),
 ];
 
-fn is_so(alloc: Global, rdr: &mut Text, row: &Row) -> bool {
+fn is_so<R: TellRead>(alloc: Global, rdr: &mut BufReader<R>, row: &Row) -> bool {
     let &(_, appended, answer, left) = row;
     let mut out = String::new(alloc);
-    let is_answer = kind(line(rdr, &mut out)) == answer;
+    let is_answer = line(rdr, &mut out) == answer;
     is_answer && out.as_str() == appended && rdr.buffer() == left
-}
-
-fn leaves(alloc: Global, row: &Row) -> Result<bool, Fail> {
-    let mut rdr = text(alloc, (8, 9), row.0, NEVER)?;
-    Ok(is_so(alloc, &mut rdr, row))
 }
 
 #[test]
 fn what_stays_buffered(rt: HostRuntime) -> Result<(), Fail> {
     for row in &ROWS {
-        assert!(rt; leaves(rt.alloc(), row)?, "{:?}", row.0);
+        let mut rdr = text(rt.alloc(), (8, 9), row.0)?;
+        assert!(rt; is_so(rt.alloc(), &mut rdr, row), "{:?}", row.0);
     }
     Ok(())
 }
@@ -237,18 +109,129 @@ fn limited(
 }
 
 // What was appended and what is buffered is all that the stream gave.
-fn grows(alloc: Global, size: Size) -> Result<bool, Fail> {
-    let mut rdr = limited(alloc, size.0, size.1)?;
+fn grows<R: TellRead>(alloc: Global, rdr: &mut BufReader<R>, size: Size) -> bool {
     let mut out = String::new(alloc);
-    let is_answer = kind(line(&mut rdr, &mut out)) == size.2;
+    let is_answer = line(rdr, &mut out) == size.2;
     let is_whole = out.is_empty() == !rdr.buffer().is_empty();
-    Ok(is_answer && is_whole && rdr.capacity() == size.3)
+    is_answer && is_whole && rdr.capacity() == size.3
 }
 
 #[test]
 fn a_buffer_below_a_character(rt: HostRuntime) -> Result<(), Fail> {
     for size in GROWTH {
-        assert!(rt; grows(rt.alloc(), size)?, "{:?}", size);
+        let mut rdr = limited(rt.alloc(), size.0, size.1)?;
+        assert!(rt; grows(rt.alloc(), &mut rdr, size), "{size:?}");
     }
+    Ok(())
+}
+
+// What a stream gives, its pieces up to a byte, and its lines.
+type Cut = (
+    &'static [u8],
+    u8,
+    &'static [&'static [u8]],
+    &'static [Result<&'static str, ErrorKind>],
+);
+
+// A line that is no UTF-8 is gone, and the next one comes whole.
+static CUTS: [Cut; 5] = [
+    (b"", b'\n', &[], &[]),
+    (b"\n", b'\n', &[b""], &[Ok("")]),
+    (
+        b"a\r\n\nbc\r\rd\n\r",
+        b'\n',
+        &[b"a\r", b"", b"bc\r\rd", b"\r"],
+        &[Ok("a"), Ok(""), Ok("bc\r\rd"), Ok("\r")],
+    ),
+    (b"bab\r\n", b'b', &[b"", b"a", b"\r\n"], &[Ok("bab")]),
+    (
+        b"a\xff\nb\r\n\xc3",
+        b'\n',
+        &[b"a\xff", b"b\r", b"\xc3"],
+        &[
+            Err(ErrorKind::InvalidData),
+            Ok("b"),
+            Err(ErrorKind::InvalidData),
+        ],
+    ),
+];
+
+fn is_piece(given: Option<io::Result<Vec<u8>>>, want: Option<&[u8]>) -> bool {
+    match (given, want) {
+        (Some(Ok(given)), Some(want)) => given.as_slice() == want,
+        (None, None) => true,
+        _ => false,
+    }
+}
+
+fn is_line(given: Option<io::Result<String>>, want: Option<Result<&str, ErrorKind>>) -> bool {
+    match (given, want) {
+        (Some(Ok(given)), Some(Ok(want))) => given.as_str() == want,
+        (Some(Err(e)), Some(Err(kind))) => e.kind() == kind,
+        (None, None) => true,
+        _ => false,
+    }
+}
+
+fn is_cut(mut pieces: Split<Source>, wants: &[&[u8]]) -> bool {
+    for want in wants {
+        if !is_piece(pieces.next(), Some(*want)) {
+            return false;
+        }
+    }
+    is_piece(pieces.next(), None)
+}
+
+fn is_read(mut lines: Lines<Source>, wants: &[Result<&str, ErrorKind>]) -> bool {
+    for want in wants {
+        if !is_line(lines.next(), Some(*want)) {
+            return false;
+        }
+    }
+    is_line(lines.next(), None)
+}
+
+#[test]
+fn cut_as_stds_cut(rt: HostRuntime) -> Result<(), Fail> {
+    for row in &CUTS {
+        let pieces = text(rt.alloc(), (3, 2), row.0)?.split(rt.alloc(), row.1);
+        assert!(rt; is_cut(pieces, row.2), "{:?}", row.0);
+        let lines = text(rt.alloc(), (3, 2), row.0)?.lines(rt.alloc());
+        assert!(rt; is_read(lines, row.3), "{:?}", row.0);
+    }
+    Ok(())
+}
+
+// A fault behind the first byte of "ab,c".
+fn faulty(alloc: Global) -> Result<BufReader<Source>, Fail> {
+    let script = [Answer::Serve(1), Answer::Fail(ErrorKind::WouldBlock)];
+    Ok(reader(alloc, 4, &[], source(alloc, b"ab,c", &script)?)?)
+}
+
+fn is_told<T: Drop>(given: Option<io::Result<T>>) -> bool {
+    matches!(given, Some(Err(_)))
+}
+
+// Taken apart where the fault came, and made again of what had begun.
+fn split_again(alloc: Global, mut pieces: Split<Source>) -> bool {
+    let is_told = is_told(pieces.next());
+    let (rdr, begun) = pieces.into_parts();
+    is_told
+        && begun.as_slice() == b"a".as_slice()
+        && is_cut(Split::from_parts(alloc, rdr, b',', begun), &[b"ab", b"c"])
+}
+
+fn lined_again(alloc: Global, mut lines: Lines<Source>) -> bool {
+    let is_told = is_told(lines.next());
+    let (rdr, begun) = lines.into_parts();
+    is_told
+        && begun.as_slice() == b"a".as_slice()
+        && is_read(Lines::from_parts(alloc, rdr, begun), &[Ok("ab,c")])
+}
+
+#[test]
+fn begun_before(rt: HostRuntime) -> Result<(), Fail> {
+    assert!(rt; split_again(rt.alloc(), faulty(rt.alloc())?.split(rt.alloc(), b',')));
+    assert!(rt; lined_again(rt.alloc(), faulty(rt.alloc())?.lines(rt.alloc())));
     Ok(())
 }

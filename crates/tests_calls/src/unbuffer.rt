@@ -1,9 +1,8 @@
 //! A reader that gives its buffer up, by worked examples.
 use crate::fixtures::of_four;
+use buffer_redux::Unbuffer;
 use buffer_redux::tell::{Tell, TellRead};
-use buffer_redux::{BufReader, Unbuffer};
 use redux_script::Answer;
-use std::alloc::Global;
 use std::io::{ErrorKind, Read};
 use std::test::Fail;
 use tests_common::{Source, first, kind, read};
@@ -16,16 +15,8 @@ type Step = (
     &'static [u8],
 );
 
-fn unbuffered<R: Tell>(rdr: BufReader<R>) -> Unbuffer<R> {
-    rdr.unbuffer()
-}
-
 fn has<R: Tell>(rdr: &Unbuffer<R>, bytes: &[u8]) -> bool {
     rdr.buf() == bytes && rdr.buf_len() == bytes.len() && rdr.is_buf_empty() == bytes.is_empty()
-}
-
-fn into_inner<R: Tell>(rdr: Unbuffer<R>) -> R {
-    rdr.into_inner()
 }
 
 // Whether a read comes to what its step says.
@@ -81,18 +72,14 @@ static ROWS: [Row; 3] = [
 fn is_read(mut rdr: Unbuffer<Source>, row: &Row) -> bool {
     let &(held, _, _, steps, offers) = row;
     let is_walked = walks(&mut rdr, held, steps);
-    into_inner(rdr).get_ref().offers() == offers && is_walked
-}
-
-fn reads(alloc: Global, row: &Row) -> Result<bool, Fail> {
-    let &(held, bytes, script, _, _) = row;
-    Ok(is_read(unbuffered(of_four(alloc, held, bytes, script)?), row))
+    rdr.into_inner().get_ref().offers() == offers && is_walked
 }
 
 #[test]
 fn reads_by_rows(rt: HostRuntime) -> Result<(), Fail> {
     for row in &ROWS {
-        assert!(rt; reads(rt.alloc(), row)?, "{:?}", row.0);
+        let rdr = of_four(rt.alloc(), row.0, row.1, row.2)?;
+        assert!(rt; is_read(rdr.unbuffer(), row), "{:?}", row.0);
     }
     Ok(())
 }
@@ -110,14 +97,10 @@ fn is_exact<R: TellRead>(rdr: &mut Unbuffer<R>) -> bool {
     is_whole && short == Err(ErrorKind::UnexpectedEof) && out == [8, 9, 7]
 }
 
-fn exactly(mut rdr: Unbuffer<Source>) -> bool {
-    is_exact(&mut rdr)
-}
-
 #[test]
 fn reads_exactly(rt: HostRuntime) -> Result<(), Fail> {
     let script = [Answer::Interrupt(1)];
     let rdr = of_four(rt.alloc(), &[1, 2], &[7, 8, 9], &script)?;
-    assert!(rt; exactly(unbuffered(rdr)));
+    assert!(rt; is_exact(&mut rdr.unbuffer()));
     Ok(())
 }

@@ -3,12 +3,12 @@ use buffer_redux::tell::{TellWrite, Told};
 use buffer_redux::{BufWriter, Buffer, GrowError, IntoInnerError, LineWriter, MakeError};
 use redux_play::laws;
 use redux_script::{Answer, ScriptWriter};
-use std::alloc::{AllocError, Global};
+use std::alloc::Global;
 use std::cell::Cell;
 use std::io;
 use std::io::{ErrorKind, Write};
 use std::test::Fail;
-use tests_common::{debug, display, line_writer, writer};
+use tests_common::{display, line_writer, writer};
 
 // A stream that is lent to a writer, and is there behind it. Its drops are counted.
 struct Lent<'a> {
@@ -59,38 +59,29 @@ static HELD: [u8; 3] = [1, 2, 3];
 
 static LEFT: [u8; 1] = [3];
 
-// The same of an unwrapping that failed, whose bytes may be gone.
-fn fault(e: &io::Error, unsent: usize) -> Fault {
-    Some((e.kind(), unsent))
-}
-
 // What the handler is told, if its buffer has what is left.
 fn told(e: &io::Error, unsent: &Buffer) -> Fault {
     (unsent.buf() == LEFT.as_slice()).then_some((e.kind(), unsent.len()))
 }
 
-fn inner_of<W: TellWrite + Drop>(wrt: BufWriter<W>) -> Fault {
+// Of an unwrapping that may fail the fault, and how many bytes its writer holds then.
+fn inner<W: TellWrite + Drop>(wrt: BufWriter<W>) -> Fault {
     match wrt.into_inner() {
         Ok(_inner) => None,
-        Err(failed) => fault(failed.error(), failed.0.buf_len()),
+        Err(failed) => Some((failed.error().kind(), failed.0.buf_len())),
     }
 }
 
 fn inner_of_lines<W: TellWrite + Drop>(lines: LineWriter<W>) -> Fault {
     match lines.into_inner() {
         Ok(_inner) => None,
-        Err(failed) => fault(failed.error(), failed.0.buf_len()),
+        Err(failed) => Some((failed.error().kind(), failed.0.buf_len())),
     }
 }
 
-fn with_err<W: TellWrite + Drop>(wrt: BufWriter<W>) -> Fault {
-    let (_inner, e) = wrt.into_inner_with_err();
-    fault(&e?, 0)
-}
-
-fn with_err_of_lines<W: TellWrite + Drop>(lines: LineWriter<W>) -> Fault {
-    let (_inner, e) = lines.into_inner_with_err();
-    fault(&e?, 0)
+// Of one that hands the fault out that, with which bytes may be gone.
+fn fault_of<W: Drop>((_inner, e): (W, Option<io::Error>)) -> Fault {
+    Some((e?.kind(), 0))
 }
 
 fn finish<W: TellWrite + Drop>(wrt: BufWriter<W>) -> Came {
@@ -116,8 +107,8 @@ fn buffer_of<W: Drop>((_inner, buf): (W, Buffer)) -> Came {
 fn ends<W: TellWrite + Drop>(wrt: BufWriter<W>, way: Way) -> Came {
     match way {
         Way::Drop => (None, None),
-        Way::Inner => (inner_of(wrt), None),
-        Way::InnerWithErr => (with_err(wrt), None),
+        Way::Inner => (inner(wrt), None),
+        Way::InnerWithErr => (fault_of(wrt.into_inner_with_err()), None),
         Way::Finish => finish(wrt),
         Way::Parts => buffer_of(wrt.into_inner_with_buffer()),
         Way::Keep => buffer_of(laws::keep_unsent(wrt)),
@@ -130,7 +121,7 @@ fn ends_lines<W: TellWrite + Drop>(lines: LineWriter<W>, way: Way) -> Came {
     match way {
         Way::Drop => (None, None),
         Way::Inner => (inner_of_lines(lines), None),
-        Way::InnerWithErr => (with_err_of_lines(lines), None),
+        Way::InnerWithErr => (fault_of(lines.into_inner_with_err()), None),
         Way::Finish => finish_lines(lines),
         Way::Parts => buffer_of(lines.into_inner_with_buffer()),
         Way::Keep => buffer_of(laws::keep_unsent_lines(lines)),
@@ -240,32 +231,31 @@ fn comes_apart_in_each_way(rt: HostRuntime) -> Result<(), Fail> {
     Ok(())
 }
 
-fn other() -> io::Error {
-    io::Error::from(ErrorKind::Other)
+fn failed(inside: u8) -> IntoInnerError<u8> {
+    IntoInnerError(inside, io::Error::from(ErrorKind::Other))
 }
 
-// Whether an error shows the fault inside.
-fn shows_other(alloc: Global, error: &IntoInnerError<u8>) -> Result<bool, AllocError> {
-    let text = display(alloc, error)?;
-    let is_other = text.as_str() == display(alloc, &other())?.as_str();
-    let shown = debug(alloc, error)?;
-    Ok(is_other && shown.as_str() == "IntoInnerError(7, Kind(Other))")
-}
-
-fn turned() -> ErrorKind {
-    io::Error::from(IntoInnerError(7u8, other())).kind()
-}
-
-// What the wrappers of a refusal and of a fault show, and turn into.
+// What the wrappers of a refusal and of a fault show.
 #[test]
 fn wrappers(rt: HostRuntime) -> Result<(), Fail> {
-    let refusal = MakeError(7u8, GrowError::Memory);
-    assert!(rt; display(rt.alloc(), &refusal)?.as_str() == "out of memory");
-    let error = IntoInnerError(7u8, other());
-    assert!(rt; shows_other(rt.alloc(), &error)?);
-    assert!(rt; (error.into_inner(), turned()) == (7, ErrorKind::Other));
-    let (fault, inside) = IntoInnerError(8u8, other()).into_parts();
-    assert!(rt; (inside, fault.kind()) == (8, ErrorKind::Other));
-    assert!(rt; IntoInnerError(7u8, fault).into_error().kind() == ErrorKind::Other);
+    let text = format!(in rt.alloc(); "{}: {:?}", MakeError(7u8, GrowError::Memory), failed(7))?;
+    assert!(rt; text.as_str() == "out of memory: IntoInnerError(7, Kind(Other))");
+    let shown = display(rt.alloc(), &failed(7))?;
+    assert!(rt;
+        shown.as_str() == display(rt.alloc(), &io::Error::from(ErrorKind::Other))?.as_str()
+    );
+    Ok(())
+}
+
+// What they turn into.
+#[test]
+fn unwrapped(rt: HostRuntime) -> Result<(), Fail> {
+    let (fault, inside) = failed(8).into_parts();
+    let kinds = [
+        fault.kind(),
+        io::Error::from(failed(7)).kind(),
+        failed(7).into_error().kind(),
+    ];
+    assert!(rt; (inside, failed(7).into_inner()) == (8, 7) && kinds == [ErrorKind::Other; 3]);
     Ok(())
 }
