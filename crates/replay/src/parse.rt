@@ -42,19 +42,21 @@ impl<T: Drop> From<AllocFailed<T>> for Unread<'_> {
 
 impl fmt::Display for Unread<'_> {
     fn fmt<W: fmt::Write>(&self, f: &mut fmt::Formatter<W>) -> fmt::Result {
-        match self {
-            Unread::Parts => f.write_str("not four parts"),
-            Unread::Stream(text) => write!(f, "`{text}` is no buffered stream"),
-            Unread::Source(text) => write!(f, "`{text}` is no number of bytes for a source"),
-            Unread::Answer(word) => write!(f, "`{word}` is no answer of a stream"),
-            Unread::Call(word) => write!(f, "`{word}` is no call"),
-            Unread::Swept => f.write_str("a bare buffer isn't swept"),
-            Unread::Memory => f.write_str("not enough memory"),
-        }
+        let (text, what) = match self {
+            Unread::Stream(text) => (*text, "is no buffered stream"),
+            Unread::Source(text) => (*text, "is no number of bytes for a source"),
+            Unread::Answer(word) => (*word, "is no answer of a stream"),
+            Unread::Call(word) => (*word, "is no call"),
+            Unread::Parts => return f.write_str("not four parts"),
+            Unread::Swept => return f.write_str("a bare buffer isn't swept"),
+            Unread::Memory => return f.write_str("not enough memory"),
+        };
+        write!(f, "`{text}` {what}")
     }
 }
 
 // What the first part names.
+#[derive(Clone, Copy)]
 enum Stream {
     Reader {
         storage: Storage,
@@ -67,46 +69,47 @@ enum Stream {
 
 /// What this line asks for.
 pub fn case(alloc: Global, line: &str) -> Result<Case, Unread<'_>> {
-    let parts: Vec<&str> = line.split(" | ").collect(alloc)?;
-    let [stream, source, script, calls] = *parts.as_slice() else {
-        return Err(Unread::Parts);
-    };
+    let (stream, source, script, calls) = parts(alloc, line)?;
     let count = number(source).ok_or(Unread::Source(source))?;
-    let script = answers(alloc, script)?;
-    match buffered_stream(alloc, stream)? {
-        Some(
-            Stream::Reader {
-                storage,
-                rule,
-                prints_bytes,
-            },
-        ) => Ok(Case::Stream(StreamCase::Reader(ReaderCase {
+    match buffered_stream(alloc, stream)?.ok_or(Unread::Stream(stream))? {
+        Stream::Reader {
+            storage,
+            rule,
+            prints_bytes,
+        } => Ok(Case::Stream(StreamCase::Reader(ReaderCase {
             storage,
             rule,
             prints_bytes,
             source: count,
-            script,
+            script: answers(alloc, script)?,
             calls: reader_calls(alloc, calls)?,
         }))),
         // A writer has no source.
-        Some(Stream::Writer(_, _)) if count > 0 => Err(Unread::Source(source)),
-        Some(Stream::Writer(storage, rule)) => {
+        Stream::Writer(_, _) if count > 0 => Err(Unread::Source(source)),
+        Stream::Writer(storage, rule) => {
             let (calls, unwraps) = unwrapping(calls);
             Ok(Case::Stream(StreamCase::Writer(WriterCase {
                 storage,
                 rule,
-                script,
+                script: answers(alloc, script)?,
                 calls: writer_calls(alloc, calls)?,
                 unwraps,
             })))
         }
-        Some(Stream::Bare(storage)) => Ok(Case::Buffer(BufferCase {
+        Stream::Bare(storage) => Ok(Case::Buffer(BufferCase {
             storage,
             source: count,
-            script,
+            script: answers(alloc, script)?,
             calls: buffer_calls(alloc, calls)?,
         })),
-        None => Err(Unread::Stream(stream)),
+    }
+}
+
+fn parts(alloc: Global, line: &str) -> Result<(&str, &str, &str, &str), Unread<'_>> {
+    let parts: Vec<&str> = line.split(" | ").collect(alloc)?;
+    match *parts.as_slice() {
+        [stream, source, script, calls] => Ok((stream, source, script, calls)),
+        _ => Err(Unread::Parts),
     }
 }
 
@@ -172,19 +175,33 @@ fn reader_rule(words: &[&str]) -> Option<ReaderRule> {
     }
 }
 
+// Those that a word alone names.
+static NAMED: [(&str, Foreign); 9] = [
+    ("greedy", Foreign::Greedy),
+    ("never", Foreign::Never),
+    ("always", Foreign::Always),
+    ("toomuch", Foreign::TooMuch),
+    ("growing", Foreign::Growing),
+    ("fickle", Foreign::Fickle),
+    ("header", Foreign::Header),
+    ("halves", Foreign::Halves),
+    ("copying", Foreign::Copying),
+];
+
+fn named(word: &str) -> Option<Foreign> {
+    for (name, policy) in &NAMED {
+        if *name == word {
+            return Some(*policy);
+        }
+    }
+    None
+}
+
 fn foreign(words: &[&str]) -> Option<Foreign> {
     match words {
-        ["greedy"] => Some(Foreign::Greedy),
-        ["never"] => Some(Foreign::Never),
-        ["always"] => Some(Foreign::Always),
-        ["toomuch"] => Some(Foreign::TooMuch),
+        [name] => named(*name),
         ["tidy", min] => Some(Foreign::Tidy(number(*min)?)),
-        ["growing"] => Some(Foreign::Growing),
         ["limiting", limit] => Some(Foreign::Limiting(number(*limit)?)),
-        ["fickle"] => Some(Foreign::Fickle),
-        ["header"] => Some(Foreign::Header),
-        ["halves"] => Some(Foreign::Halves),
-        ["copying"] => Some(Foreign::Copying),
         ["failsat", question] => Some(Foreign::FailsAt(number(*question)?)),
         _ => None,
     }
@@ -204,12 +221,24 @@ fn writer_rule(words: &[&str]) -> Option<WriterRule> {
     }
 }
 
+// Adds what a word stands for, if it does.
+fn add<'a, T: Drop>(
+    list: &mut Vec<T>,
+    item: Option<T>,
+    unread: Unread<'a>,
+) -> Result<(), Unread<'a>> {
+    match item {
+        Some(item) => Ok(list.push(item)?),
+        None => Err(unread),
+    }
+}
+
 // What the stream inside answers; `-` is nothing.
 fn answers(alloc: Global, text: &str) -> Result<Vec<Answer>, Unread<'_>> {
     let mut answers = Vec::new(alloc);
     if text != "-" {
         for word in text.split_whitespace() {
-            answers.push(answer(word).ok_or(Unread::Answer(word))?)?;
+            add(&mut answers, answer(word), Unread::Answer(word))?;
         }
     }
     Ok(answers)
@@ -218,7 +247,7 @@ fn answers(alloc: Global, text: &str) -> Result<Vec<Answer>, Unread<'_>> {
 fn reader_calls(alloc: Global, text: &str) -> Result<Vec<ReaderWord>, Unread<'_>> {
     let mut calls = Vec::new(alloc);
     for word in text.split_whitespace() {
-        calls.push(reader_call(word).ok_or(Unread::Call(word))?)?;
+        add(&mut calls, reader_call(word), Unread::Call(word))?;
     }
     Ok(calls)
 }
@@ -226,7 +255,7 @@ fn reader_calls(alloc: Global, text: &str) -> Result<Vec<ReaderWord>, Unread<'_>
 fn buffer_calls(alloc: Global, text: &str) -> Result<Vec<BufferCall>, Unread<'_>> {
     let mut calls = Vec::new(alloc);
     for word in text.split_whitespace() {
-        calls.push(buffer_call(word).ok_or(Unread::Call(word))?)?;
+        add(&mut calls, buffer_call(word), Unread::Call(word))?;
     }
     Ok(calls)
 }

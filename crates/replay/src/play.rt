@@ -34,6 +34,8 @@ pub enum Unplayed {
     Refused(GrowError),
     /// There is not enough memory for what came of it.
     Memory,
+    /// A bare buffer is played just once.
+    Swept,
 }
 
 impl From<GrowError> for Unplayed {
@@ -92,6 +94,13 @@ pub fn first_buffer(alloc: Global, storage: Storage) -> Result<Buffer, Unplayed>
     }
     let _ = buffer.copy_from_slice(held.as_slice());
     Ok(buffer)
+}
+
+/// These bytes, and then what is buffered.
+pub fn joined(alloc: Global, bytes: &[u8], buffer: &Buffer) -> Result<Vec<u8>, AllocError> {
+    let mut joined = Vec::from_slice(alloc, bytes)?;
+    joined.extend_from_slice(buffer.buf())?;
+    Ok(joined)
 }
 
 /// This number, modulo 256.

@@ -1,6 +1,6 @@
 //! Playing a case of a reader.
 use crate::case::{Foreign, ReaderCase, ReaderRule, ReaderWord};
-use crate::play::{Outcome, Unplayed, counting, first_buffer, is_refusal, low_byte};
+use crate::play::{Outcome, Unplayed, counting, first_buffer, is_refusal, joined, low_byte};
 use crate::print;
 use crate::watched::{Fault, Watched};
 use buffer_redux::policy::{MinBuffered, ReaderPolicy, StdPolicy};
@@ -67,7 +67,7 @@ pub fn reads(alloc: Global, case: &ReaderCase, fault: Fault) -> Result<Outcome, 
         shown: Vec::new(alloc),
     };
     let (source, buffer) = under_rule(alloc, reader, case, &mut record)?;
-    Ok(outcome(alloc, case, held, record, source.get_ref(), &buffer)?)
+    Ok(outcome(alloc, case, held, &record, source.get_ref(), &buffer)?)
 }
 
 fn reader(
@@ -146,14 +146,22 @@ fn played<R: TellRead + Drop, P: ReaderPolicy + SetMin + Drop>(
     case: &ReaderCase,
     record: &mut Record,
 ) -> Result<(R, Buffer), AllocError> {
+    plays_words(alloc, &mut reader, case, record)?;
+    Ok(reader.into_inner_with_buffer())
+}
+
+fn plays_words<R: TellRead, P: ReaderPolicy + SetMin>(
+    alloc: Global,
+    reader: &mut BufReader<R, P>,
+    case: &ReaderCase,
+    record: &mut Record,
+) -> Result<(), AllocError> {
     let words = case.calls.as_slice();
     if case.prints_bytes {
-        plays_each(alloc, &mut reader, words, record)?;
-    } else {
-        let calls = listed(alloc, words)?;
-        plays(alloc, &mut reader, calls.as_slice(), &mut record.run)?;
+        return plays_each(alloc, reader, words, record);
     }
-    Ok(reader.into_inner_with_buffer())
+    let calls = listed(alloc, words)?;
+    plays(alloc, reader, calls.as_slice(), &mut record.run)
 }
 
 // The calls without the words for another minimum.
@@ -216,20 +224,16 @@ fn outcome(
     alloc: Global,
     case: &ReaderCase,
     held: usize,
-    record: Record,
+    record: &Record,
     source: &Source,
     buffer: &Buffer,
 ) -> Result<Outcome, AllocError> {
-    let line = line(alloc, case, &record, source, buffer)?;
-    let returned = errors_of(alloc, record.run.answers.as_slice())?;
-    let mut joined = Vec::from_slice(alloc, record.run.handed.as_slice())?;
-    joined.extend_from_slice(buffer.buf())?;
     Ok(Outcome {
-        line,
+        line: line(alloc, case, record, source, buffer)?,
         calls: source.notes().len(),
-        joined,
+        joined: joined(alloc, record.run.handed.as_slice(), buffer)?,
         whole: counting(alloc, 0, held.saturating_add(source.inside().served()))?,
-        returned,
+        returned: errors_of(alloc, record.run.answers.as_slice())?,
         caused: Vec::from_slice(alloc, source.errors())?,
     })
 }

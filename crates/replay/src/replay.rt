@@ -49,25 +49,42 @@ pub fn replay<R: BufRead + Drop, W: Write>(
     let mut number: u64 = 0;
     for line in input.lines(alloc) {
         number = number.saturating_add(1);
-        let line = match line {
-            Ok(line) => line,
-            Err(e) if e.kind() == ErrorKind::InvalidData => {
-                ending = Ending::SomeUnread;
-                writeln!(output, "line {number}: not text")?;
-                continue;
-            }
-            Err(e) => return Err(e),
-        };
-        match played(alloc, line.as_str()) {
-            Ok(text) => writeln!(output, "{text}")?,
-            Err(e) => {
-                ending = Ending::SomeUnread;
-                writeln!(output, "line {number}: {e}")?;
-            }
+        if !is_answered(alloc, number, line, output)? {
+            ending = Ending::SomeUnread;
         }
     }
     output.flush()?;
     Ok(ending)
+}
+
+// Writes what comes of a line, and says whether that is an answer.
+fn is_answered<W: Write>(
+    alloc: Global,
+    number: u64,
+    line: io::Result<String>,
+    output: &mut W,
+) -> io::Result<bool> {
+    match line {
+        Ok(line) => answers(alloc, number, line.as_str(), output),
+        Err(e) if e.kind() == ErrorKind::InvalidData => {
+            writeln!(output, "line {number}: not text")?;
+            Ok(false)
+        }
+        Err(e) => Err(e),
+    }
+}
+
+fn answers<W: Write>(alloc: Global, number: u64, line: &str, output: &mut W) -> io::Result<bool> {
+    match played(alloc, line) {
+        Ok(text) => {
+            writeln!(output, "{text}")?;
+            Ok(true)
+        }
+        Err(e) => {
+            writeln!(output, "line {number}: {e}")?;
+            Ok(false)
+        }
+    }
 }
 
 fn played(alloc: Global, line: &str) -> Result<String, Unread<'_>> {
@@ -76,19 +93,24 @@ fn played(alloc: Global, line: &str) -> Result<String, Unread<'_>> {
     }
     let (mode, line) = mode(line);
     let case = case(alloc, line)?;
-    let answer = match (case, mode) {
-        (Case::Buffer(case), Mode::Once) => plays_bare(alloc, &case),
-        (Case::Buffer(_), _) => return Err(Unread::Swept),
-        (Case::Stream(case), Mode::Once) => {
-            play_case(alloc, &case, Fault::NONE, usize::MAX).map(|played| played.line)
-        }
-        (Case::Stream(case), Mode::Sweep) => sweep(alloc, &case, Lie::None),
-        (Case::Stream(case), Mode::LossySweep) => sweep(alloc, &case, Lie::Loses),
-        (Case::Stream(case), Mode::SilentSweep) => sweep(alloc, &case, Lie::Hides),
-    };
-    match answer {
+    match answer(alloc, &case, mode) {
         Ok(text) => Ok(text),
         Err(Unplayed::Refused(e)) => Ok(String::from_str(alloc, refusal_word(e))?),
         Err(Unplayed::Memory) => Err(Unread::Memory),
+        Err(Unplayed::Swept) => Err(Unread::Swept),
+    }
+}
+
+fn answer(alloc: Global, case: &Case, mode: Mode) -> Result<String, Unplayed> {
+    let case = match case {
+        Case::Stream(case) => case,
+        Case::Buffer(case) if matches!(mode, Mode::Once) => return plays_bare(alloc, case),
+        Case::Buffer(_) => return Err(Unplayed::Swept),
+    };
+    match mode {
+        Mode::Once => Ok(play_case(alloc, case, Fault::NONE, usize::MAX)?.line),
+        Mode::Sweep => sweep(alloc, case, Lie::None),
+        Mode::LossySweep => sweep(alloc, case, Lie::Loses),
+        Mode::SilentSweep => sweep(alloc, case, Lie::Hides),
     }
 }

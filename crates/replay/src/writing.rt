@@ -1,6 +1,6 @@
 //! Playing a case of a writer.
 use crate::case::{Foreign, WriterCase, WriterRule, WriterWord};
-use crate::play::{Outcome, Unplayed, counting, first_buffer, is_refusal, low_byte};
+use crate::play::{Outcome, Unplayed, counting, first_buffer, is_refusal, joined, low_byte};
 use crate::print;
 use crate::watched::{Fault, Watched};
 use buffer_redux::policy::{
@@ -40,11 +40,25 @@ pub fn writes(
     at_once: usize,
 ) -> Result<Outcome, Unplayed> {
     let buffer = first_buffer(alloc, case.storage)?;
+    let first = low_byte(buffer.len());
     let mut record = Record::new(alloc, buffer.buf())?;
-    let words = case.calls.as_slice();
-    let offers = offers(alloc, words, low_byte(buffer.len()))?;
-    let calls = calls(alloc, words, offers.as_slice())?;
     let writer = writer(alloc, case, fault, buffer)?;
+    let (target, buffer) = offered(alloc, writer, case, first, at_once, &mut record)?;
+    Ok(outcome(alloc, record, target.get_ref(), &buffer)?)
+}
+
+// Plays the calls, of which the first write counts up from this byte, and takes the writer apart.
+fn offered(
+    alloc: Global,
+    writer: BufWriter<Told<Target>>,
+    case: &WriterCase,
+    first: u8,
+    at_once: usize,
+    record: &mut Record,
+) -> Result<(Told<Target>, Buffer), Unplayed> {
+    let words = case.calls.as_slice();
+    let offers = offers(alloc, words, first)?;
+    let calls = calls(alloc, words, offers.as_slice())?;
     // The player knows no `write_all`, so each call beside one is played by itself.
     let has_all = words
         .iter()
@@ -54,8 +68,7 @@ pub fn writes(
         at_once: if has_all { 1 } else { at_once.max(1) },
         unwraps: case.unwraps,
     };
-    let (target, buffer) = under_rule(alloc, writer, case.rule, listed, &mut record)?;
-    Ok(outcome(alloc, record, target.get_ref(), &buffer)?)
+    under_rule(alloc, writer, case.rule, listed, record)
 }
 
 // A call that the player knows, or a `write_all`.
@@ -145,10 +158,8 @@ fn outcome(
     target: &Target,
     buffer: &Buffer,
 ) -> Result<Outcome, AllocError> {
-    let taken = target.inside().taken();
+    let joined = joined(alloc, target.inside().taken(), buffer)?;
     let line = line(alloc, record.run.answers.as_slice(), target, buffer)?;
-    let mut joined = Vec::from_slice(alloc, taken)?;
-    joined.extend_from_slice(buffer.buf())?;
     Ok(Outcome {
         line,
         calls: target.notes().len(),
@@ -208,20 +219,37 @@ fn played<P: WriterPolicy + Drop>(
     record: &mut Record,
 ) -> Result<(Told<Target>, Buffer), Unplayed> {
     let mut writer = writer.set_policy(policy);
-    for steps in listed.calls.chunks(listed.at_once.max(1)) {
-        match steps {
-            [Step::All(bytes)] => writes_all(&mut writer, bytes, record)?,
-            _ => {
-                let calls = known(alloc, steps)?;
-                plays(&mut writer, calls.as_slice(), &mut record.run)?;
-                record.note(calls.as_slice(), writer.get_ref().get_ref().errors())?;
-            }
-        }
-    }
+    plays_each(alloc, &mut writer, listed, record)?;
     if listed.unwraps {
         return unwrapped(alloc, writer, record);
     }
     Ok(writer.into_inner_with_buffer())
+}
+
+fn plays_each<P: WriterPolicy>(
+    alloc: Global,
+    writer: &mut BufWriter<Told<Target>, P>,
+    listed: Listed<'_>,
+    record: &mut Record,
+) -> Result<(), AllocError> {
+    for steps in listed.calls.chunks(listed.at_once.max(1)) {
+        match steps {
+            [Step::All(bytes)] => writes_all(writer, bytes, record)?,
+            _ => plays_known(alloc, writer, steps, record)?,
+        }
+    }
+    Ok(())
+}
+
+fn plays_known<P: WriterPolicy>(
+    alloc: Global,
+    writer: &mut BufWriter<Told<Target>, P>,
+    steps: &[Step<'_>],
+    record: &mut Record,
+) -> Result<(), AllocError> {
+    let calls = known(alloc, steps)?;
+    plays(writer, calls.as_slice(), &mut record.run)?;
+    record.note(calls.as_slice(), writer.get_ref().get_ref().errors())
 }
 
 // The calls that the player knows.
@@ -279,17 +307,19 @@ fn unwrapped<P: WriterPolicy + Drop>(
     record: &mut Record,
 ) -> Result<(Told<Target>, Buffer), Unplayed> {
     match writer.into_inner() {
-        Ok(target) => {
-            record.run.answers.push(WriterAnswer::Done)?;
-            Ok((target, Buffer::with_capacity(alloc, 0)?))
-        }
+        Ok(target) => Ok((target, nothing_left(alloc, record)?)),
         Err(IntoInnerError(writer, e)) => {
-            let (target, buffer) = writer.into_inner_with_buffer();
             record.run.answers.push(WriterAnswer::Fault(e.kind()))?;
+            let (target, buffer) = writer.into_inner_with_buffer();
             record.note(&[WriterCall::Flush], target.get_ref().errors())?;
             Ok((target, buffer))
         }
     }
+}
+
+fn nothing_left(alloc: Global, record: &mut Record) -> Result<Buffer, Unplayed> {
+    record.run.answers.push(WriterAnswer::Done)?;
+    Ok(Buffer::with_capacity(alloc, 0)?)
 }
 
 impl Record {
