@@ -36,6 +36,7 @@ pub(crate) fn pass<R: TellRead, P: ReaderPolicy, C: Coding>(
 }
 
 /// Takes what is no payload behind a look, and returns how many bytes of payload come next: 0 where the body ended.
+#[inline(always)]
 pub(crate) fn skip<R: TellRead, P: ReaderPolicy, C: Coding>(
     reader: &mut BufReader<R, P>,
     coding: &C,
@@ -251,6 +252,7 @@ pub(crate) fn read_on<R: TellRead, P: ReaderPolicy, C: Coding>(
     if let Some(look) = find_known(reader, coding, progress, known) {
         return match look {
             Look::Payload(sure) => read_sure(reader, coding, progress, known, sure, out),
+            Look::Ended => Ok(0),
             _ => read_slowly(reader, coding, progress, known, look, out),
         };
     }
