@@ -13,15 +13,16 @@ use Rattle.forward.specs.PromptLaws.{RunsPromptly-none}
 use Rattle.forward.specs.StreamsLaws.{WriteGaveUp-so}
 use Rattle.forward.specs.declared.error.Cause.{Cause}
 use Rattle.forward.specs.declared.error.Cause.TheVariants as cause
-use Rattle.bodies.specs.Words.{Error, Buffered, StreamLog, StdPolicy, IsBodyOfChunks, TookWholeBody, BreaksAt, begun, chunked, Limits, FilterRules, AllSent, RefusedBeforeCalls, MetNoFault, RunError}
+use Rattle.bodies.specs.Words.{Error, Buffered, StreamLog, StdPolicy, IsBodyOfChunks, TookWholeBody, BreaksAt, begun, chunked, Limits, FilterRules, AllSent, RefusedBeforeCalls, MetNoFault, RunError, InputFault}
 use Rattle.bodies.specs.Decode.{DecodeRan, DecodesBody, IsBodyPart, IsDue}
 use Rattle.bodies.specs.Decoding.{MayDecode, NoneBuffered, PayloadEnds, decoding_rules, held_payload}
 use Rattle.bodies.specs.DecodingLaws.{none_held}
-use Rattle.bodies.specs.Filters.{IsErrorOf}
+use Rattle.programs.specs.Outcome.{IsErrorOf}
 use Rattle.bodies.specs.FiltersLaws.{each_some}
 use Rattle.bodies.specs.Moved.{Moved, MovedAll}
 use Rattle.bodies.specs.declared.decoding.Decoding.{Decoding}
-use Rattle.bodies.specs.declared.error.RunError.TheVariants.{NotChunked, Truncated, Behind, Io}
+use Rattle.programs.specs.declared.error.RunError.TheVariants.{Io, Wrong}
+use Rattle.bodies.specs.declared.fault.InputFault.TheVariants.{NotChunked, Truncated, Behind}
 use Rattle.bodies.proofs.Moves.{all_given, moved_none}
 
 -- a filter before a body
@@ -33,13 +34,13 @@ start limits first u piece =
 module _ {R W : Type 0} (remaining : R → Option (List ℕ)) (limits : Limits) (first : Buffered R StdPolicy)
     (u : Buffered W StdPolicy) (piece : Vec ℕ) (none : first.block.bytes ≡ []) (none' : u.block.bytes ≡ [])
     (t : Decoding R W) (ready : MayDecode t) where
-  abbrev rules : FilterRules (Decoding R W) RunError
+  abbrev rules : FilterRules (Decoding R W) InputFault
   rules = decoding_rules remaining
 
   abbrev begin : Decoding R W
   begin = start limits first u piece
 
-  abbrev Ran : Result (Unit {0}) RunError → Type 0
+  abbrev Ran : Result (Unit {0}) (RunError InputFault) → Type 0
   Ran answer = DecodeRan limits first.log t.source.reader.log u.log t.target.log answer
 
   -- what was handed out went over
@@ -125,14 +126,13 @@ module _ {R W : Type 0} (remaining : R → Option (List ℕ)) (limits : Limits) 
       sent_body = is_body moved.sent all_sent
 
       -- what comes next is wrong, or missing, or more than the body
-      wrong : (why : RunError) → PayloadEnds begin.source (Err why) t.source
-          → MetNoFault first.log t.source.reader.log u.log t.target.log → Ran (Err why)
+      wrong : (why : InputFault) → PayloadEnds begin.source (Err why) t.source
+          → MetNoFault first.log t.source.reader.log u.log t.target.log → Ran (Err (Wrong why))
       wrong (NotChunked why right) (breaks, count) met =
           (moved_all, part_sent, rw over.moves.hands.went.coding at breaks, count, met)
       wrong (Truncated right) (none, left, dry, count) met =
           (moved_all, part_sent, rw over.moves.hands.went.coding at none, left, dry, count, met)
       wrong (Behind right) (whole, some, count) met = (moved_all, sent_body whole, some, count, met)
-      wrong other end met = absurd end
 
   -- all went over
   pub ended : (count : ℕ) → ForwardAnswers rules begin (Ok count) t → Ran (Ok tt)
@@ -140,7 +140,7 @@ module _ {R W : Type 0} (remaining : R → Option (List ℕ)) (limits : Limits) 
       (moved_all count over held sent, sent_body count over held sent whole, left, dry, met)
 
   -- the run was stopped
-  pub stopped : (count : ℕ) (why : Cause RunError) (e : RunError) → StopsBy rules count begin why t → IsErrorOf why e
+  pub stopped : (count : ℕ) (why : Cause InputFault) (e : RunError InputFault) → StopsBy rules count begin why t → IsErrorOf why e
       → Ran (Err e)
   stopped count (cause.Wrong why) e (over, (held, end), sent, met) is =
       subst (λ x. Ran (Err x)) (sym is) (wrong count over held sent why end met)
@@ -164,7 +164,7 @@ module _ {R W : Type 0} (remaining : R → Option (List ℕ)) (limits : Limits) 
   )
 
 -- where all went well: what was written is the payload of what was read
-pub decode_says : {limits : Limits} {read read' written written' : StreamLog} (answer : Result (Unit {0}) RunError)
+pub decode_says : {limits : Limits} {read read' written written' : StreamLog} (answer : Result (Unit {0}) (RunError InputFault))
     → DecodesBody limits read read' written written' answer → record {
       decoded : OnOk answer ((body : List ℕ) × (payload : List ℕ) × IsBodyOfChunks limits body payload
           × (read'.reads.given ≡ read.reads.given ++ body)

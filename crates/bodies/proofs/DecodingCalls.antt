@@ -24,7 +24,7 @@ use Rattle.forward.specs.declared.error.AskError.TheVariants as ask
 use Rattle.forward.specs.Filter.{FailedToRead}
 use Rattle.forward.specs.Target.{bytes_taken}
 use Rattle.programs.specs.TargetLaws.{TakesAll-not_passed, TakesAll-passed, WasFlushed-sent, WasFlushed-writes}
-use Rattle.bodies.specs.Words.{Error, WasFlushed, Buffered, std_read_rules, StreamLog, StdPolicy, BodyWent, IsBodyOfChunks, IsBodyReader, TakesAll, TookWholeBody, LooksBehind, ReadsPayload, chunked, handed_of, taken_count, AskAnswers, FilterAsks, FilterFlushes, FilterRules, FilterPasses, StaysOpen, taken_more, target_of, WritesInOrder, RunError}
+use Rattle.bodies.specs.Words.{Error, WasFlushed, Buffered, std_read_rules, StreamLog, StdPolicy, BodyWent, IsBodyOfChunks, IsBodyReader, TakesAll, TookWholeBody, LooksBehind, ReadsPayload, chunked, handed_of, taken_count, AskAnswers, FilterAsks, FilterFlushes, FilterRules, FilterPasses, StaysOpen, taken_more, target_of, WritesInOrder, InputFault}
 use Rattle.bodies.specs.Decode.{IsDue}
 use Rattle.bodies.specs.Decoding.{ChunkedState, HandsPayloadPieces, HoldsPiece, MayDecode, NoneBuffered, TakesPayload, ask_error, decoding_rules, end_answer, held_payload, most_wanted}
 use Rattle.bodies.specs.Decoding as Source
@@ -82,7 +82,7 @@ writer_ready u ready v kind same n most = record {
 }
 
 module _ {R W : Type 0} (remaining : R → Option (List ℕ)) (s : Decoding R W) (ready : MayDecode s) where
-  abbrev rules : FilterRules (Decoding R W) RunError
+  abbrev rules : FilterRules (Decoding R W) InputFault
   rules = decoding_rules remaining
 
   pub held_still : 0 < s.held → HoldsPiece remaining s s
@@ -222,7 +222,7 @@ module _ {R W : Type 0} (remaining : R → Option (List ℕ)) (s : Decoding R W)
         → BodyWent remaining std_read_rules (chunked s.source.coding.0) s.source (take n out) t
         → IsBodyReader (chunked t.coding.0) t → Source.AsksPromptly s.source t
         → t.reader.log.reads.zero_reads ≤ s.source.reader.log.reads.zero_reads + 1
-        → (answer : Result Bool (AskError RunError)) → AskAnswers rules s answer (asked t n)
+        → (answer : Result Bool (AskError InputFault)) → AskAnswers rules s answer (asked t n)
         → FilterAsks rules s answer (asked t n)
     asks_so t n most went whole over once answer answers = record {
       told = refl;
@@ -242,7 +242,7 @@ module _ {R W : Type 0} (remaining : R → Option (List ℕ)) (s : Decoding R W)
     asks_none : (t : ChunkedState R) → BodyWent remaining std_read_rules (chunked s.source.coding.0) s.source [] t
         → IsBodyReader (chunked t.coding.0) t → Source.AsksPromptly s.source t
         → t.reader.log.reads.zero_reads ≤ s.source.reader.log.reads.zero_reads + 1
-        → (answer : Result Bool (AskError RunError)) → AskAnswers rules s answer (asked t s.held)
+        → (answer : Result Bool (AskError InputFault)) → AskAnswers rules s answer (asked t s.held)
         → FilterAsks rules s answer (asked t s.held)
     asks_none t went whole over once answer answers =
         asks_so t s.held (omega (arith, none)) (rw none went) whole over once answer answers
@@ -344,7 +344,7 @@ module _ {R W : Type 0} (remaining : R → Option (List ℕ)) (s : Decoding R W)
               looks.went.along.grows;
         }
 
-        asks_behind : (answer : Result Bool (AskError RunError))
+        asks_behind : (answer : Result Bool (AskError InputFault))
             → t.reader.log.reads.zero_reads ≤ m.reader.log.reads.zero_reads + 1
             → AskAnswers rules s answer (asked t s.held) → FilterAsks rules s answer (asked t s.held)
         asks_behind answer once answers =

@@ -13,14 +13,14 @@ use Rattle.forward.specs.PromptLaws.{RunsPromptly-none}
 use Rattle.forward.specs.StreamsLaws.{MetNoFault-joins, WriteGaveUp-after, WriteGaveUp-so}
 use Rattle.forward.specs.declared.error.Cause.{Cause}
 use Rattle.forward.specs.declared.error.Cause.TheVariants as cause
-use Rattle.bodies.specs.Words.{Error, WritesInOrder, Buffered, OnlyInterrupts-none, StreamLog, StdPolicy, IsBodyOfChunks, IsCarried, IsChunks, body_end, unbegun, Limits, FilterRules, AllSent, RefusedBeforeCalls, RunError, chunk}
+use Rattle.bodies.specs.Words.{Error, WritesInOrder, Buffered, OnlyInterrupts-none, StreamLog, StdPolicy, IsBodyOfChunks, IsCarried, IsChunks, body_end, unbegun, Limits, FilterRules, AllSent, RefusedBeforeCalls, RunError, InputFault, chunk}
 use Rattle.bodies.specs.Encode.{ChunkEachRead, EncodeRan, Encodes, EndsBody, IsCut, IsDue, IsEncodedBody, IsEnded, IsUnended}
 use Rattle.bodies.specs.Encoding.{encoding_rules}
-use Rattle.bodies.specs.Filters.{IsErrorOf}
+use Rattle.programs.specs.Outcome.{IsErrorOf}
 use Rattle.bodies.specs.FiltersLaws.{each_some}
 use Rattle.bodies.specs.Moved.{Moved, MovedAll}
 use Rattle.bodies.specs.declared.encoding.Encoding.{Encoding}
-use Rattle.bodies.specs.declared.error.RunError.TheVariants.{Io}
+use Rattle.programs.specs.declared.error.RunError.TheVariants.{Io}
 use Rattle.bodies.proofs.Moves.{all_given, moved_none}
 
 abbrev least : Limits
@@ -79,7 +79,7 @@ start first u = record { source = first; target = unbegun u }
 -- from empty buffers on
 module _ {R W : Type 0} (remaining : R → Option (List ℕ)) (trace : W → W → Type 0) (first : Buffered R StdPolicy)
     (u : Buffered W StdPolicy) (none : first.block.bytes ≡ []) (none' : u.block.bytes ≡ []) (t : Encoding R W) where
-  abbrev rules : FilterRules (Encoding R W) RunError
+  abbrev rules : FilterRules (Encoding R W) InputFault
   rules = encoding_rules remaining trace
 
   abbrev begin : Encoding R W
@@ -134,7 +134,7 @@ module _ {R W : Type 0} (remaining : R → Option (List ℕ)) (trace : W → W �
   -- the end of the body went over, or not
   module _ (count : ℕ) (over : Forwarded rules count begin t) (left : t.source.block.bytes ≡ []) (met : NoneFailed rules begin t)
       (v : Buffered W StdPolicy) (once : t.source.log.reads.zero_reads ≡ first.log.reads.zero_reads + 1) where
-    pub ended : (answer : Result (Unit {0}) RunError) → EndsBody t.target.writer answer v
+    pub ended : (answer : Result (Unit {0}) (RunError InputFault)) → EndsBody t.target.writer answer v
         → EncodeRan first.log t.source.log u.log v.log answer
     ended (Ok _) end = (
       moved_all count over end.end v end.taken end.answers.1,
@@ -160,10 +160,10 @@ module _ {R W : Type 0} (remaining : R → Option (List ℕ)) (trace : W → W �
   abbrev still : WritesInOrder t.target.writer [] t.target.writer
   still = WritesInOrder-none t.target.writer
 
-  abbrev Ran : RunError → Type 0
+  abbrev Ran : RunError InputFault → Type 0
   Ran e = EncodeRan first.log t.source.log u.log t.target.writer.log (Err e)
 
-  pub stopped : (count : ℕ) (why : Cause RunError) (e : RunError) → StopsBy rules count begin why t → IsErrorOf why e → Ran e
+  pub stopped : (count : ℕ) (why : Cause InputFault) (e : RunError InputFault) → StopsBy rules count begin why t → IsErrorOf why e → Ran e
   stopped count (cause.Wrong why) e (over, wrong, sent, met) is = absurd wrong
   stopped count (cause.Read fault) e (over, left, sent, again, failed) is = subst Ran (sym is) (
     moved_all count over [] t.target.writer still sent,
@@ -200,7 +200,7 @@ module _ {R W : Type 0} (remaining : R → Option (List ℕ)) (trace : W → W �
   )
 
 -- where all went well: what was read is the payload of what was written
-pub encode_says : {read read' written' written'' : StreamLog} (answer : Result (Unit {0}) RunError)
+pub encode_says : {read read' written' written'' : StreamLog} (answer : Result (Unit {0}) (RunError InputFault))
     → Encodes read read' written' written'' answer → record {
       encoded : OnOk answer ((body : List ℕ) × (payload : List ℕ) × IsEncodedBody body payload
           × (read'.reads.given ≡ read.reads.given ++ payload)

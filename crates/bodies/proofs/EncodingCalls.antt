@@ -18,14 +18,14 @@ use Rattle.forward.specs.declared.error.AskError.TheVariants.{Io}
 use Rattle.forward.specs.declared.error.AskError.{AskError}
 use Rattle.forward.specs.PromptLaws.{WritesOn-joins}
 use Rattle.programs.specs.TargetLaws.{SendRow, TakesAll-not_passed, TakesAll-passed, TakesAll-row, WasFlushed-sent, WasFlushed-writes, WritesOn-unflushed, unsent_row}
-use Rattle.bodies.specs.Words.{around, AskAnswers, FilterAsks, body_end, Buffered, chunk, ChunkedWriterState, ChunksWent, Error, failure_count, Fills, FilterRules, FilterFlushes, IsChunkedWriter, line_end, MetInterrupts-joins, FilterPasses, PutsIn, ReadsAlong, room, RunError, SendErrorCaused-after, SendsFirst, size_digits, std_read_rules, StdPolicy, StreamLog, TakesAll, taken_more, WasFlushed, WritesChunk, WritesInOrder}
+use Rattle.bodies.specs.Words.{around, AskAnswers, FilterAsks, body_end, Buffered, chunk, ChunkedWriterState, ChunksWent, Error, failure_count, Fills, FilterRules, FilterFlushes, IsChunkedWriter, line_end, MetInterrupts-joins, FilterPasses, PutsIn, ReadsAlong, room, RunError, InputFault, SendErrorCaused-after, SendsFirst, size_digits, std_read_rules, StdPolicy, StreamLog, TakesAll, taken_more, WasFlushed, WritesChunk, WritesInOrder}
 use Rattle.bodies.specs.Encode.{EndAnswers, EndsBody}
 use Rattle.bodies.specs.Encoding.{encoding_rules, MayEncode}
 use Rattle.bodies.specs.EncodingLaws.{HandsReads-none}
 use Rattle.bodies.specs.FillLaws.{fill_asks, fill_leaves, fill_offers, some_came}
 use Rattle.bodies.specs.FiltersLaws.{ended, fault_gives, fill_asked, fill_capacity, std_fault}
 use Rattle.bodies.specs.declared.encoding.Encoding.{Encoding}
-use Rattle.bodies.specs.declared.error.RunError.TheVariants.{Write}
+use Rattle.programs.specs.declared.error.RunError.TheVariants.{Write}
 
 -- the answer of a write, whatever it took
 abbrev wrote_all : Result ℕ Error → Result (Unit {0}) Error
@@ -117,7 +117,7 @@ module _ {W : Type 0} (tells : W → StreamLog) (trace : W → W → Type 0) whe
       | inr there ↦ (goes.fits there).capacity
     ]
 
-    ends : (answer : Result (Unit {0}) Error) → WasFlushed tells trace m answer v → (said : Result (Unit {0}) RunError)
+    ends : (answer : Result (Unit {0}) Error) → WasFlushed tells trace m answer v → (said : Result (Unit {0}) (RunError InputFault))
         → failure_count answer ≡ failure_count said → EndAnswers u (body_end []) said v → EndsBody u said v
     ends answer f said same_count answers =
         let flush = WasFlushed-writes m v f in
@@ -171,7 +171,7 @@ module _ {W : Type 0} (tells : W → StreamLog) (trace : W → W → Type 0) whe
 
 module _ {R W : Type 0} (remaining : R → Option (List ℕ)) (tells : W → StreamLog) (trace : W → W → Type 0) (s : Encoding R W)
     (ready : MayEncode s) where
-  abbrev rules : FilterRules (Encoding R W) RunError
+  abbrev rules : FilterRules (Encoding R W) InputFault
   rules = encoding_rules remaining trace
 
   -- behind calls of both sides
@@ -285,7 +285,7 @@ module _ {R W : Type 0} (remaining : R → Option (List ℕ)) (tells : W → Str
         → t.log.reads.zero_reads + length t.log.reads.faults + min 1 (length t.block.bytes)
         ≡ s.source.log.reads.zero_reads + length s.source.log.reads.faults + 1
         → t.log.reads.zero_reads ≤ s.source.log.reads.zero_reads + 1
-        → (answer : Result Bool (AskError RunError)) → AskAnswers rules s answer after → FilterAsks rules s answer after
+        → (answer : Result Bool (AskError InputFault)) → AskAnswers rules s answer after → FilterAsks rules s answer after
     empty_asked filled fills told each quiet answer answers =
         let same = fill_capacity s.source t filled fills in
         let takes = ChunksWent-none trace none joins s.target in

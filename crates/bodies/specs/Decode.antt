@@ -5,9 +5,10 @@ use Rattle.chunked.specs.Place.{IsPlace}
 use Rattle.chunked.specs.declared.error.Malformed.{Malformed}
 use Rattle.chunked.specs.declared.place.Place.{Place}
 use Rattle.chunked.specs.declared.place.Place.TheVariants.{Line}
-use Rattle.bodies.specs.Words.{failure_count, StreamLog, IsBodyOfChunks, BreaksAt, chunked, Limits, RunError, RunsPromptly, MetNoFault, ReadFailed, WriteGaveUp, OverCount, RefusedBeforeCalls, GaveNothing}
+use Rattle.bodies.specs.Words.{failure_count, StreamLog, IsBodyOfChunks, BreaksAt, chunked, Limits, RunError, InputFault, RunsPromptly, MetNoFault, ReadFailed, WriteGaveUp, OverCount, RefusedBeforeCalls, GaveNothing}
 use Rattle.bodies.specs.Moved.{Moved, MovedAll}
-use Rattle.bodies.specs.declared.error.RunError.TheVariants.{NotChunked, Truncated, Behind, Read, Write, Io}
+use Rattle.programs.specs.declared.error.RunError.TheVariants.{Wrong, Read, Write, Io}
+use Rattle.bodies.specs.declared.fault.InputFault.TheVariants.{NotChunked, Truncated, Behind}
 
 -- these bytes lead from before a body to this place in it, and this is the payload in them
 pub record IsBodyPart (limits : Limits) (wire payload : List ℕ) (place : Place) : Type 0 where
@@ -32,19 +33,19 @@ NoPayloadLeft {limits} m due = (m.unsent ≡ []) × (IsBodyOfChunks limits m.tak
 
 -- what a run of `decode` did: at Ok all that was given is a body, and else its beginning. Where a read failed no payload that
 -- came is lost
-abbrev pub DecodeRan : Limits → StreamLog → StreamLog → StreamLog → StreamLog → Result (Unit {0}) RunError → Type 0
+abbrev pub DecodeRan : Limits → StreamLog → StreamLog → StreamLog → StreamLog → Result (Unit {0}) (RunError InputFault) → Type 0
 DecodeRan limits read read' written written' (Ok _) =
     (m : MovedAll read read' written written') × IsBodyOfChunks limits m.moved.taken m.moved.sent × (m.moved.rest ≡ [])
     × GaveNothing read read' × MetNoFault read read' written written'
-DecodeRan limits read read' written written' (Err (NotChunked why right)) =
+DecodeRan limits read read' written written' (Err (Wrong (NotChunked why right))) =
     (m : MovedAll read read' written written') × (part : IsDue limits m.moved.taken m.moved.sent)
     × BreaksAt limits part.place m.moved.taken m.moved.rest why
     × (right ≡ counted_bytes m.moved.taken) × MetNoFault read read' written written'
-DecodeRan limits read read' written written' (Err (Truncated right)) =
+DecodeRan limits read read' written written' (Err (Wrong (Truncated right))) =
     (m : MovedAll read read' written written') × IsDue limits m.moved.taken m.moved.sent
     × ((whole : List ℕ) → ¬ IsBodyOfChunks limits m.moved.taken whole) × (m.moved.rest ≡ [])
     × GaveNothing read read' × (right ≡ counted_bytes m.moved.taken) × MetNoFault read read' written written'
-DecodeRan limits read read' written written' (Err (Behind right)) =
+DecodeRan limits read read' written written' (Err (Wrong (Behind right))) =
     (m : MovedAll read read' written written') × IsBodyOfChunks limits m.moved.taken m.moved.sent
     × (0 < length m.moved.rest) × (right ≡ counted_bytes m.moved.taken) × MetNoFault read read' written written'
 DecodeRan limits read read' written written' (Err (Read e)) =
@@ -58,7 +59,7 @@ DecodeRan limits read read' written written' (Err (Io e)) =
     × (OverCount e (length (m.sent ++ m.unsent)) read read' written written' ⊎ RefusedBeforeCalls e read read' written written')
 
 -- all that a run of `decode` promises: the writer was flushed once for each ask of the reader at most, and twice more
-pub record DecodesBody (limits : Limits) (read read' written written' : StreamLog) (answer : Result (Unit {0}) RunError)
+pub record DecodesBody (limits : Limits) (read read' written written' : StreamLog) (answer : Result (Unit {0}) (RunError InputFault))
     : Type 0 where
   pub ran : DecodeRan limits read read' written written' answer
   pub promptly : RunsPromptly (IsDue limits) (failure_count answer) 2 read read' written written'

@@ -11,11 +11,11 @@ use Rattle.chunked.specs.declared.place.Place.{Place}
 use Rattle.forward.specs.declared.error.AskError.{AskError}
 use Rattle.forward.specs.declared.error.AskError.TheVariants.{Wrong}
 use Rattle.forward.specs.declared.error.AskError.TheVariants as ask
-use Rattle.bodies.specs.Words.{Error, Flushes, RanDry, WritesInOrder, Buffered, std_read_rules, StdPolicy, BodyState, BodyWent, BreaksAt, IsBodyOfChunks, IsBodyReader, TookWholeBody, LooksBehind, chunked, handed_of, taken_count, FilterRules, AllSent, target_of, RunError}
+use Rattle.bodies.specs.Words.{Error, Flushes, RanDry, WritesInOrder, Buffered, std_read_rules, StdPolicy, BodyState, BodyWent, BreaksAt, IsBodyOfChunks, IsBodyReader, TookWholeBody, LooksBehind, chunked, handed_of, taken_count, FilterRules, AllSent, target_of, InputFault}
 use Rattle.bodies.specs.Decode.{IsDue}
 use Rattle.bodies.specs.Filters.{Asked}
 use Rattle.bodies.specs.declared.decoding.Decoding.{Decoding}
-use Rattle.bodies.specs.declared.error.RunError.TheVariants.{NotChunked, Truncated, Behind}
+use Rattle.bodies.specs.declared.fault.InputFault.TheVariants.{NotChunked, Truncated, Behind}
 
 -- a buffered writer whose buffer is larger than a piece of payload
 pub record IsPieceTarget {W : Type 0} (u : Buffered W StdPolicy) : Type 0 where
@@ -72,18 +72,18 @@ pub record HoldsPiece {R W : Type 0} (remaining : R → Option (List ℕ)) (s t 
   pub ready : MayDecode t
 
 -- what an ask answers where no payload came; and where the body ended, by whether the stream did
-abbrev pub ask_error : Bool → BodyError Malformed → AskError RunError
+abbrev pub ask_error : Bool → BodyError Malformed → AskError InputFault
 ask_error came (body.Wrong why right) = Wrong (NotChunked why right)
 ask_error came (body.Truncated right) = Wrong (Truncated right)
 ask_error came (body.Io e) = if came then ask.IoBehind e else ask.Io e
 
-abbrev pub end_answer : Bool → Result Bool Error → ℕ → Result Bool (AskError RunError)
+abbrev pub end_answer : Bool → Result Bool Error → ℕ → Result Bool (AskError InputFault)
 end_answer came (Ok true) taken = Ok false
 end_answer came (Ok false) taken = Err (Wrong (Behind taken))
 end_answer came (Err e) taken = Err (if came then ask.IoBehind e else ask.Io e)
 
 pub record LooksOn {R : Type 0} (remaining : R → Option (List ℕ)) (s : ChunkedState R) (came : Bool)
-    (answer : Result Bool (AskError RunError)) (t : ChunkedState R) : Type 0 where
+    (answer : Result Bool (AskError InputFault)) (t : ChunkedState R) : Type 0 where
   pub end : Result Bool Error
   pub looks : LooksBehind remaining std_read_rules (chunked s.coding.0) s end t
   pub equal : answer ≡ end_answer came end (taken_count t)
@@ -93,7 +93,7 @@ abbrev pub most_wanted : {R : Type 0} → ChunkedState R → ℕ
 most_wanted d = if nat_lt (length d.taken) (2 ^ 64 - 1) then most_between d.coding.0 d.place else 0
 
 -- the body ended, and the stream behind it, which gave nothing; or what comes next is wrong, or missing, or more than the body
-abbrev pub PayloadEnds : {R : Type 0} → ChunkedState R → Result (Unit {0}) RunError → ChunkedState R → Type 0
+abbrev pub PayloadEnds : {R : Type 0} → ChunkedState R → Result (Unit {0}) InputFault → ChunkedState R → Type 0
 PayloadEnds s (Ok _) t = TookWholeBody (chunked t.coding.0) t × (t.reader.block.bytes ≡ []) × RanDry s.reader t.reader
 PayloadEnds s (Err (NotChunked why right)) t =
     BreaksAt t.coding.0 t.place t.taken t.reader.block.bytes why × (right ≡ taken_count t)
@@ -102,9 +102,8 @@ PayloadEnds s (Err (Truncated right)) t =
     × (right ≡ taken_count t)
 PayloadEnds s (Err (Behind right)) t =
     TookWholeBody (chunked t.coding.0) t × (0 < length t.reader.block.bytes) × (right ≡ taken_count t)
-PayloadEnds s (Err other) t = ⊥
 
-abbrev pub decoding_rules : {R W : Type 0} → (R → Option (List ℕ)) → FilterRules (Decoding R W) RunError
+abbrev pub decoding_rules : {R W : Type 0} → (R → Option (List ℕ)) → FilterRules (Decoding R W) InputFault
 decoding_rules remaining = record {
   read = λ s. s.source.reader.log;
   target = λ s. target_of s.target;

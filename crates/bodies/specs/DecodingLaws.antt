@@ -7,15 +7,15 @@ use Rattle.buffer_redux.specs.WriterLaws.{WritesInOrder-joins, WritesInOrder-non
 use Rattle.body_reader.specs.Between.{LeavesRoom}
 use Rattle.body_reader.specs.BodyReaderLaws.{BodyWent-joins, BodyWent-none}
 use Rattle.forward.specs.ForwardLaws.{CountsAsks}
-use Rattle.bodies.specs.Words.{std_read_rules, StdPolicy, BodyWent, chunked, handed_of, AsksSent, FilterRules, NeverGaveNothing, IsLawful, Moves, StaysOpen, AllSent, sent_all, taken_more, RunError}
+use Rattle.bodies.specs.Words.{std_read_rules, StdPolicy, BodyWent, chunked, handed_of, AsksSent, FilterRules, NeverGaveNothing, IsLawful, Moves, StaysOpen, AllSent, sent_all, taken_more, InputFault}
 use Rattle.bodies.specs.Decode.{IsDue}
 use Rattle.bodies.specs.Decoding.{AsksPromptly, HandsPayloadPieces, PayloadEnds, TakesPayload, decoding_rules, held_payload}
 use Rattle.bodies.specs.FiltersLaws.{asked_after}
 use Rattle.bodies.specs.declared.decoding.Decoding.{Decoding}
-use Rattle.bodies.specs.declared.error.RunError.TheVariants.{NotChunked, Truncated, Behind}
+use Rattle.bodies.specs.declared.fault.InputFault.TheVariants.{NotChunked, Truncated, Behind}
 
 module _ {R W : Type 0} (remaining : R → Option (List ℕ)) where
-  abbrev filter_rules : FilterRules (Decoding R W) RunError
+  abbrev filter_rules : FilterRules (Decoding R W) InputFault
   filter_rules = decoding_rules remaining
 
   -- what was handed out is held, behind what was
@@ -52,14 +52,13 @@ module _ {R W : Type 0} (remaining : R → Option (List ℕ)) where
     room = g.room ∙ f.room;
   }
 
-  ends_after : (a b c : Decoding R W) (how : Result (Unit {0}) RunError) → NeverGaveNothing filter_rules a b
+  ends_after : (a b c : Decoding R W) (how : Result (Unit {0}) InputFault) → NeverGaveNothing filter_rules a b
       → PayloadEnds b.source how c.source
       → PayloadEnds a.source how c.source
   ends_after a b c (Ok _) gives end = (end.0, end.1, omega (arith, gives.zero_reads, end.2))
   ends_after a b c (Err (NotChunked why right)) gives end = end
   ends_after a b c (Err (Truncated right)) gives end = (end.0, end.1, omega (arith, gives.zero_reads, end.2), end.3)
   ends_after a b c (Err (Behind right)) gives end = end
-  ends_after a b c (Err other) gives end = absurd end
 
   still_open : (a b : Decoding R W) → StaysOpen filter_rules a b → NeverGaveNothing filter_rules a b
   still_open a b (inl gives) = gives

@@ -3,16 +3,16 @@ use Rattle.std.specs.Prelude.{◌≡◌, ℕ, ◌+◌, ◌<◌, ◌≤◌, ◌�
 use Rattle.std.specs.declared.io.Error.{Error}
 use Rattle.buffer_redux.specs.StreamLog.{ReadLog}
 use Rattle.forward.specs.Flushes.{FlushesSend}
-use Rattle.bodies.specs.Words.{Buffered, FaultsOften, FewFaults, failure_count, IsInterrupt, WritesInOrder, MetInterrupts, SendErrorCaused, StreamLog, StdPolicy, IsBodyOfChunks, IsChunks, body_end, Limits, RunsPromptly, WritesOn, AllSent, MetNoFault, ReadFailed, WriteGaveUp, OffersBuffer, OverCount, RefusedBeforeCalls, RunError}
+use Rattle.bodies.specs.Words.{Buffered, FaultsOften, FewFaults, failure_count, IsInterrupt, WritesInOrder, MetInterrupts, SendErrorCaused, StreamLog, StdPolicy, IsBodyOfChunks, IsChunks, body_end, Limits, RunsPromptly, WritesOn, AllSent, MetNoFault, ReadFailed, WriteGaveUp, OffersBuffer, OverCount, RefusedBeforeCalls, RunError, InputFault}
 use Rattle.bodies.specs.Moved.{Moved, MovedAll}
-use Rattle.bodies.specs.declared.error.RunError.TheVariants.{Read, Write, Io}
+use Rattle.programs.specs.declared.error.RunError.TheVariants.{Wrong, Read, Write, Io}
 
 -- what is due of these bytes: chunks with all of them
 abbrev pub IsDue : List ℕ → List ℕ → Type 0
 IsDue bytes due = IsChunks due bytes
 
 -- what an answer says of ending a body, behind whose chunks these bytes were taken in: at Ok its end, which was sent and flushed
-abbrev pub EndAnswers : {W : Type 0} → Buffered W StdPolicy → List ℕ → Result (Unit {0}) RunError → Buffered W StdPolicy → Type 0
+abbrev pub EndAnswers : {W : Type 0} → Buffered W StdPolicy → List ℕ → Result (Unit {0}) (RunError InputFault) → Buffered W StdPolicy → Type 0
 EndAnswers u end answer v = MatchResult answer
     (λ _. (end ≡ body_end []) × AllSent v × MetInterrupts u.log.writes v.log.writes)
     (λ why. ((end ≡ body_end []) ⊎ (end ≡ []))
@@ -20,7 +20,7 @@ EndAnswers u end answer v = MatchResult answer
     × (IsInterrupt e → FaultsOften u.log.writes v.log.writes ⊎ ((v.block.bytes ≡ []) × (end ≡ body_end [])))))
 
 -- what ending a body does
-pub record EndsBody {W : Type 0} (u : Buffered W StdPolicy) (answer : Result (Unit {0}) RunError) (v : Buffered W StdPolicy)
+pub record EndsBody {W : Type 0} (u : Buffered W StdPolicy) (answer : Result (Unit {0}) (RunError InputFault)) (v : Buffered W StdPolicy)
     : Type 0 where
   pub end : List ℕ
   pub taken : WritesInOrder u end v
@@ -71,7 +71,7 @@ NoChunkLeft {read} {read'} m = (m.unsent ≡ []) × (m.rest ≡ [])
 
 -- what a run of `encode` did: at Ok a body was received. Where a read failed no byte that came is lost. Any other fault is a
 -- writer's, or a buffer was refused before the run began, or it ended at its count, and then no body was begun that has an end
-abbrev pub EncodeRan : StreamLog → StreamLog → StreamLog → StreamLog → Result (Unit {0}) RunError → Type 0
+abbrev pub EncodeRan : StreamLog → StreamLog → StreamLog → StreamLog → Result (Unit {0}) (RunError InputFault) → Type 0
 EncodeRan read read' written written' (Ok _) =
     (m : MovedAll read read' written written') × IsEnded m.moved × MetNoFault read read' written written'
 EncodeRan read read' written written' (Err (Read e)) =
@@ -83,11 +83,11 @@ EncodeRan read read' written written' (Err (Write e)) =
 EncodeRan read read' written written' (Err (Io e)) =
     (m : Moved read read' written written') × IsUnended m
     × (OverCount e (length m.taken) read read' written written' ⊎ RefusedBeforeCalls e read read' written written')
-EncodeRan read read' written written' (Err other) = ⊥
+EncodeRan read read' written written' (Err (Wrong fault)) = ⊥
 
 -- all that a run of `encode` promises: each ask was for 8192 bytes, so that no chunk has more, and the writer was flushed once
 -- for each at most, and once more
-pub record Encodes (read read' written written' : StreamLog) (answer : Result (Unit {0}) RunError) : Type 0 where
+pub record Encodes (read read' written written' : StreamLog) (answer : Result (Unit {0}) (RunError InputFault)) : Type 0 where
   pub ran : EncodeRan read read' written written' answer
   pub offers : OffersBuffer false 8192 read read'
   pub promptly : RunsPromptly IsDue (failure_count answer) 1 read read' written written'

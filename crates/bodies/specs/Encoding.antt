@@ -1,7 +1,7 @@
 -- A filter that makes what is given chunks.
 use Rattle.std.specs.Prelude.{◌≡◌, ℕ, ◌+◌, ◌<◌, ◌≤◌, List, [], length, min, MatchResult, Option}
 use Rattle.std.specs.List.{concat}
-use Rattle.bodies.specs.Words.{Buffered, Flushes, ReadsAlong, std_read_rules, StdPolicy, ChunksWent, IsChunkedWriter, FilterRules, AllSent, around, target_of, RunError}
+use Rattle.bodies.specs.Words.{Buffered, Flushes, ReadsAlong, std_read_rules, StdPolicy, ChunksWent, IsChunkedWriter, FilterRules, AllSent, around, target_of, InputFault}
 use Rattle.bodies.specs.Encode.{IsDue}
 use Rattle.bodies.specs.Filters.{Asked}
 use Rattle.bodies.specs.declared.encoding.Encoding.{Encoding}
@@ -30,7 +30,7 @@ pub record AsksBuffer {R : Type 0} (s t : Buffered R StdPolicy) : Type 0 where
   pub offer : t.log.reads.offer ≡ 8192
 
 -- at the end nothing is left, and the reader gave nothing, once. No byte is wrong
-abbrev pub encoding_rules : {R W : Type 0} → (R → Option (List ℕ)) → (W → W → Type 0) → FilterRules (Encoding R W) RunError
+abbrev pub encoding_rules : {R W : Type 0} → (R → Option (List ℕ)) → (W → W → Type 0) → FilterRules (Encoding R W) InputFault
 encoding_rules remaining trace = record {
   read = λ s. s.source.log;
   target = λ s. target_of s.target.writer;

@@ -6,7 +6,7 @@ use Rattle.buffer_redux.specs.ReaderLaws.{ReadsAlong-joins, ReadsAlong-none}
 use Rattle.chunked.specs.ChunkedWriterLaws.{ChunksWent-joins, ChunksWent-none}
 use Rattle.forward.specs.ForwardLaws.{Goes-leaves}
 use Rattle.forward.specs.Link.{Ask, Goes, Linked}
-use Rattle.bodies.specs.Words.{Buffered, std_read_rules, StdPolicy, AsksSent, IsLawful, Moves, OffersBuffer, StaysOpen, AllSent, sent_all, taken_more, RunError, chunk}
+use Rattle.bodies.specs.Words.{Buffered, std_read_rules, StdPolicy, AsksSent, IsLawful, Moves, OffersBuffer, StaysOpen, AllSent, sent_all, taken_more, InputFault, chunk}
 use Rattle.bodies.specs.Encoding.{HandsReads, encoding_rules}
 use Rattle.bodies.specs.Filters.{Asked}
 use Rattle.bodies.specs.FiltersLaws.{asked_after}
@@ -25,7 +25,7 @@ module _ {R : Type 0} (remaining : R → Option (List ℕ)) where
   }
 
 module _ {R W : Type 0} (remaining : R → Option (List ℕ)) (trace : W → W → Type 0) where
-  ends_after : (a b c : Encoding R W) (how : Result (Unit {0}) RunError) → StaysOpen (encoding_rules remaining trace) a b
+  ends_after : (a b c : Encoding R W) (how : Result (Unit {0}) InputFault) → StaysOpen (encoding_rules remaining trace) a b
       → (encoding_rules remaining trace).ends b how c → (encoding_rules remaining trace).ends a how c
   ends_after a b c (Ok _) (inl gives) end = (end.0, omega (arith, end.1, gives.zero_reads))
   ends_after a b c (Ok _) (inr closed) end = absurd closed

@@ -1,4 +1,4 @@
-pub mod Ending
+pub mod InputFault
 pub mod Filters
 pub mod FillLaws
 pub mod FiltersLaws
@@ -9,5 +9,4 @@ pub mod DecodingLaws
 pub mod Encode
 pub mod Encoding
 pub mod EncodingLaws
-pub mod Asked
 pub mod Words

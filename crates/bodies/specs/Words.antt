@@ -1,5 +1,5 @@
 -- Words of std and of the crates below that contracts and proofs here are made of.
-pub use Rattle.bodies.specs.declared.error.RunError.{RunError}
+pub use Rattle.bodies.specs.declared.fault.InputFault.{InputFault}
 pub use Rattle.body_reader.specs.BodyReader.{BodyState, BodyWent, IsBodyReader, LooksBehind, ReadsPayload, TookWholeBody, begun, handed_of, taken_count}
 pub use Rattle.buffer_redux.specs.BufReader.{Fills, RanDry, ReadsAlong, ReadsInOrder}
 pub use Rattle.buffer_redux.specs.BufWriter.{Flushes, WasFlushed, WritesInOrder}
@@ -18,6 +18,7 @@ pub use Rattle.forward.specs.Filter.{AskAnswers, AsksSent, FilterAsks, FilterFlu
 pub use Rattle.forward.specs.Prompt.{AskedLast, AsksGiveOrFail, RunsPromptly, WritesOn}
 pub use Rattle.forward.specs.Streams.{FaultsOften, FewFaults, WriteGaveUp}
 pub use Rattle.forward.specs.Target.{failure_count}
+pub use Rattle.programs.specs.declared.error.RunError.{RunError}
 pub use Rattle.programs.specs.Streams.{AllSent, GaveNothing, MetNoFault, OffersBuffer, OverCount, ReadFailed, ReceivedFlushed, RefusedBeforeCalls}
 pub use Rattle.programs.specs.TakenIn.{TakesAll, sent_all, taken_more, target_of}
 pub use Rattle.std.specs.declared.io.Error.{Error}

@@ -6,12 +6,12 @@ ghost use Rattle.bodies.specs.Decode.{DecodesBody};
 ghost use Rattle.bodies.specs.Decoding.{IsPieceTarget};
 
 use crate::decoding::{Decoding, PIECE};
-use crate::error::{RunError, error_of};
+use crate::fault::InputFault;
 use buffer_redux::tell::{TellRead, TellWrite};
 use buffer_redux::{BufReader, BufWriter};
 use chunked::{Chunked, ChunkedReader, Limits};
 use forward::{Link, forward};
-use programs::buffered;
+use programs::{RunError, buffered};
 use std::alloc::Global;
 
 /// Copies the payload of the body that `reader` gives to `writer`. A body that is wrong, or ends too early, ends the run; the
@@ -25,7 +25,7 @@ pub fn decode<R: TellRead, W: TellWrite>(
     limits: Limits,
     reader: R,
     writer: W,
-) -> (Result<(), RunError>, R, W)
+) -> (Result<(), RunError<InputFault>>, R, W)
     ensures decoded { OnOk result.0 ((body : List ℕ) × (payload : List ℕ) × IsBodyOfChunks limits body payload
         × ((R.log result.1).reads.given ≡ (R.log reader).reads.given ++ body)
         × ((W.log result.2).writes.received ≡ (W.log writer).writes.received ++ payload)) }
@@ -50,7 +50,7 @@ fn decode_all<R: TellRead, W: TellWrite>(
     limits: Limits,
     target: BufWriter<W>,
     piece: Vec<u8>,
-) -> (Result<(), RunError>, BufReader<R>, BufWriter<W>)
+) -> (Result<(), RunError<InputFault>>, BufReader<R>, BufWriter<W>)
     requires source { IsEmptyBuffer PIECE source.block }
     requires target { IsPieceTarget target }
     requires empty { target.block.bytes ≡ [] }
@@ -72,9 +72,5 @@ fn decode_all<R: TellRead, W: TellWrite>(
         piece: _,
         held: _,
     } = link.into_inner();
-    let answer = match answer {
-        Ok(_) => Ok(()),
-        Err(stopped) => Err(error_of(stopped.cause)),
-    };
-    (answer, body.into_inner_torn(), target)
+    (RunError::outcome(answer), body.into_inner_torn(), target)
 }

@@ -6,7 +6,7 @@ ghost use Rattle.chunked.specs.Coding.{chunked};
 ghost use Rattle.bodies.specs.Decoding.{HoldsPiece, LooksOn, MayDecode, NoneBuffered, ask_error, decoding_rules};
 ghost use Rattle.bodies.specs.DecodingLaws.{decoding_lawful};
 
-use crate::error::RunError;
+use crate::fault::InputFault;
 use buffer_redux::BufWriter;
 use buffer_redux::tell::{TellRead, TellWrite};
 use chunked::{ChunkedError, ChunkedReader};
@@ -32,7 +32,7 @@ pub struct Decoding<R: TellRead, W: TellWrite> {
 }
 
 impl<R: TellRead, W: TellWrite> Filter for Decoding<R, W> {
-    type Wrong = RunError;
+    type Wrong = InputFault;
 
     ghost rules = { decoding_rules R.remaining };
 
@@ -52,7 +52,7 @@ impl<R: TellRead, W: TellWrite> Filter for Decoding<R, W> {
     }
 
     #[inline(always)]
-    fn ask(&mut self) -> Result<bool, AskError<RunError>> {
+    fn ask(&mut self) -> Result<bool, AskError<InputFault>> {
         let taken = self.source.taken();
         match self.source.read_payload(self.piece.as_mut_slice()) {
             Ok(0) => {
@@ -100,24 +100,24 @@ fn read_held<R: TellRead>(source: &mut ChunkedReader<R>, piece: &mut [u8]) -> us
 fn ask_behind<R: TellRead>(
     source: &mut ChunkedReader<R>,
     came: bool,
-) -> Result<bool, AskError<RunError>>
+) -> Result<bool, AskError<InputFault>>
     ensures { LooksOn R.remaining source.old came result source.new }
 {
     match source.is_at_end() {
         Ok(true) => Ok(false),
-        Ok(false) => Err(AskError::Wrong(RunError::Behind(source.taken()))),
+        Ok(false) => Err(AskError::Wrong(InputFault::Behind(source.taken()))),
         Err(e) => Err(AskError::of_fault(e, came)),
     }
 }
 
 // Why no payload came, as a filter says it.
 #[inline(always)]
-fn ask_error(e: ChunkedError, came: bool) -> AskError<RunError>
+fn ask_error(e: ChunkedError, came: bool) -> AskError<InputFault>
     ensures { result ≡ ask_error came e }
 {
     match e {
-        ChunkedError::Wrong(why, right) => AskError::Wrong(RunError::NotChunked(why, right)),
-        ChunkedError::Truncated(right) => AskError::Wrong(RunError::Truncated(right)),
+        ChunkedError::Wrong(why, right) => AskError::Wrong(InputFault::NotChunked(why, right)),
+        ChunkedError::Truncated(right) => AskError::Wrong(InputFault::Truncated(right)),
         ChunkedError::Io(e) => AskError::of_fault(e, came),
     }
 }

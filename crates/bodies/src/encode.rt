@@ -5,12 +5,12 @@ ghost use Rattle.programs.specs.Streams.{IsEmptyBuffer};
 ghost use Rattle.bodies.specs.Encode.{Encodes, EndsBody, IsEncodedBody};
 
 use crate::encoding::Encoding;
-use crate::error::{RunError, error_of};
+use crate::fault::InputFault;
 use buffer_redux::tell::{TellRead, TellWrite};
 use buffer_redux::{BufReader, BufWriter, IntoInnerError};
 use chunked::ChunkedWriter;
 use forward::{Link, forward};
-use programs::buffered;
+use programs::{RunError, buffered};
 use std::alloc::Global;
 use std::io::Write;
 
@@ -27,7 +27,7 @@ pub fn encode<R: TellRead, W: TellWrite>(
     alloc: Global,
     reader: R,
     writer: W,
-) -> (Result<(), RunError>, R, W)
+) -> (Result<(), RunError<InputFault>>, R, W)
     ensures encoded { OnOk result.0 ((body : List ℕ) × (payload : List ℕ) × IsEncodedBody body payload
         × ((R.log result.1).reads.given ≡ (R.log reader).reads.given ++ payload)
         × ((W.log result.2).writes.received ≡ (W.log writer).writes.received ++ body)) }
@@ -46,7 +46,7 @@ pub fn encode<R: TellRead, W: TellWrite>(
 fn encode_all<R: TellRead, W: TellWrite>(
     source: BufReader<R>,
     target: BufWriter<W>,
-) -> (Result<(), RunError>, BufReader<R>, BufWriter<W>)
+) -> (Result<(), RunError<InputFault>>, BufReader<R>, BufWriter<W>)
     requires empty { source.block.bytes ≡ [] }
     requires capacity { source.block.capacity ≡ PIECE }
     requires target { IsEmptyBuffer (around + PIECE) target.block }
@@ -68,12 +68,12 @@ fn encode_all<R: TellRead, W: TellWrite>(
             let (answer, target) = end(body);
             (answer, source, target)
         }
-        Err(stopped) => (Err(error_of(stopped.cause)), source, body.into_inner()),
+        Err(stopped) => (Err(RunError::of(stopped.cause)), source, body.into_inner()),
     }
 }
 
 // Ends the body, and flushes it.
-fn end<W: TellWrite>(body: ChunkedWriter<W>) -> (Result<(), RunError>, BufWriter<W>)
+fn end<W: TellWrite>(body: ChunkedWriter<W>) -> (Result<(), RunError<InputFault>>, BufWriter<W>)
     requires between { body.due ≡ 0 }
     ensures { EndsBody body.writer result.0 result.1 }
 {

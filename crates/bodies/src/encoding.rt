@@ -2,7 +2,7 @@
 ghost use Rattle.bodies.specs.Encoding.{encoding_rules};
 ghost use Rattle.bodies.specs.EncodingLaws.{encoding_lawful};
 
-use crate::error::RunError;
+use crate::fault::InputFault;
 use buffer_redux::BufReader;
 use buffer_redux::tell::{TellRead, TellWrite};
 use chunked::ChunkedWriter;
@@ -18,7 +18,7 @@ pub struct Encoding<R: TellRead, W: TellWrite> {
 }
 
 impl<R: TellRead, W: TellWrite> Filter for Encoding<R, W> {
-    type Wrong = RunError;
+    type Wrong = InputFault;
 
     ghost rules = { encoding_rules R.remaining W.trace };
 
@@ -37,7 +37,7 @@ impl<R: TellRead, W: TellWrite> Filter for Encoding<R, W> {
     }
 
     #[inline(always)]
-    fn ask(&mut self) -> Result<bool, AskError<RunError>> {
+    fn ask(&mut self) -> Result<bool, AskError<InputFault>> {
         // Says that the reader is whole.
         let _ = self.source.buffer();
         match self.source.fill_buf() {

@@ -1,13 +1,15 @@
 //! A run as words ask for it, over any two streams that tell.
-ghost use Rattle.std.specs.Prelude.{map, string_bytes};
-ghost use Rattle.bodies.specs.Asked.{RunDid};
+ghost use Rattle.std.specs.Prelude.{◌≡◌, codes, map, string_bytes};
+ghost use Rattle.programs.specs.Outcome.{RunsOneOf};
+ghost use Rattle.bodies.specs.Decode.{DecodesBody};
+ghost use Rattle.bodies.specs.Encode.{Encodes};
 
 use crate::decode::decode;
 use crate::encode::encode;
-use crate::ending::Ending;
+use crate::fault::InputFault;
 use buffer_redux::tell::{TellRead, TellWrite};
 use chunked::Limits;
-use programs::only_word;
+use programs::{Ending, Outcome, Report, only_word};
 use std::alloc::Global;
 
 // How much of a body may be no payload.
@@ -23,18 +25,32 @@ pub fn run_asked<R: TellRead, W: TellWrite>(
     words: &[String],
     reader: R,
     writer: W,
-) -> (Ending, R, W)
-    ensures { RunDid (map string_bytes words.now) result.0 (R.log reader) (R.log result.1) (W.log writer) (W.log result.2) }
+) -> (Outcome<InputFault>, R, W)
+    ensures { RunsOneOf (codes "decode") (codes "encode") (DecodesBody (record { line = 8192; trailers = 65536 })) Encodes
+        (map string_bytes words.now) result.0 (R.log reader) (R.log result.1) (W.log writer) (W.log result.2) }
 {
     match only_word(words) {
         Some("decode") => {
             let (answer, reader, writer) = decode(alloc, LIMITS, reader, writer);
-            (Ending::of(&answer), reader, writer)
+            (Outcome::of(&answer), reader, writer)
         }
         Some("encode") => {
             let (answer, reader, writer) = encode(alloc, reader, writer);
-            (Ending::of(&answer), reader, writer)
+            (Outcome::of(&answer), reader, writer)
         }
-        _ => (Ending::Usual(programs::Ending::Usage), reader, writer),
+        _ => (Outcome::Usual(Ending::Usage), reader, writer),
+    }
+}
+
+/// What the program says of an outcome.
+pub fn said(outcome: Outcome<InputFault>) -> Report<'static, InputFault>
+    ensures program { result.program.now ≡ codes "bodies" }
+    ensures usage { result.usage.now ≡ codes "decode|encode" }
+    ensures outcome { result.outcome ≡ outcome }
+{
+    Report {
+        program: "bodies",
+        usage: "decode|encode",
+        outcome,
     }
 }

@@ -12,9 +12,8 @@ use std::process::ExitCode;
 // Copies as the words that the program was given ask for.
 fn outcome(rt: &HostRuntime) -> Ending {
     let words = match programs::args(rt) {
-        Ok(Some(words)) => words,
-        Ok(None) => return Ending::Usage,
-        Err(e) => return Ending::of_fault(&e),
+        Ok(words) => words,
+        Err(ending) => return ending,
     };
     let (reader, writer) = (Told::new(rt.stdin()), Told::new(rt.stdout()));
     run_asked(rt.alloc(), words.as_slice(), reader, writer).0

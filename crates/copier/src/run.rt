@@ -10,8 +10,9 @@ ghost use Rattle.copier.specs.Copy.{CopiesAll, Copied, HoldsBackAtMost, IsBeginn
 use crate::settings::settings;
 use buffer_redux::tell::{TellRead, TellWrite};
 use buffer_redux::{BufReader, BufWriter, copy_buf};
-use programs::{Ending, GREATEST_CAPACITY, Report, buffered};
+use programs::{Ending, GREATEST_CAPACITY, Outcome, Report, buffered};
 use std::alloc::Global;
+use std::convert::Infallible;
 use std::io;
 use std::io::{ErrorKind, Write};
 
@@ -109,14 +110,14 @@ pub fn run_asked<R: TellRead, W: TellWrite>(
 }
 
 /// What the program says of an ending.
-pub fn said(ending: Ending) -> Report<'static>
+pub fn said(ending: Ending) -> Report<'static, Infallible>
     ensures program { result.program.now ≡ codes "bufcopy" }
     ensures usage { result.usage.now ≡ codes "[std|ring] [CAPACITY]" }
-    ensures ending { result.ending ≡ ending }
+    ensures outcome { result.outcome ≡ Outcome.Usual ending }
 {
     Report {
         program: "bufcopy",
         usage: "[std|ring] [CAPACITY]",
-        ending,
+        outcome: Outcome::Usual(ending),
     }
 }

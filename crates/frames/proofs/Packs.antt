@@ -2,7 +2,7 @@
 use Rattle.std.proofs.Common.{◌≡◌, ℕ, ◌+◌, ◌≤◌, ◌<◌, List, length, true, false, Option, None, Some, Ok, Err, refl, sym, ap, subst, ◌∙◌, arith, ◌^◌, ◌⊎◌, inl, inr, [], ◌∷◌, ◌++◌, Result, append-nil, append_assoc, length-append}
 use Rattle.std.proofs.lemmas.Bool.{true≢false}
 use Rattle.std.proofs.lemmas.List.Elements.{All-nil}
-use Rattle.std.specs.Prelude.{IfSome, IsErrAnd, IsOk, MatchResult}
+use Rattle.std.specs.Prelude.{IfSome, IsOk, MatchResult}
 use Rattle.std.specs.declared.io.ErrorKind.TheVariants.{OutOfMemory}
 use Rattle.redux_buffer.specs.declared.grow_error.GrowError.TheVariants.{Memory, TooLarge}
 use Rattle.redux_buffer.specs.declared.grow_error.GrowError.{GrowError}
@@ -28,13 +28,14 @@ use Rattle.piece_filter.specs.PieceRuns.{Over, all_received}
 use Rattle.piece_filter.specs.Pieces.{HasEnded, IsReady, Keeps, PiecesEnd, piece_rules}
 use Rattle.piece_filter.specs.PiecesCalls as pieces
 use Rattle.piece_filter.specs.PiecesLaws.{coded_all, whole_text}
-use Rattle.frames.specs.Words.{All, AllSent, FilterAsks, Begins, bytes_at, Error, error_kind, Fits, FitsLine, ForwardAnswers, frame, frames, GaveNothing, Grammar, HasLines, HasPieces, IsLent, IsLine, IsOpen, IsPieces, lined, LineState, MetNoFault, OverCount, RanDry, rest, room_for, RunError, Span, Stopped, StreamLog, WritesInOrder, with_newlines}
-use Rattle.frames.specs.Ending.{IsErrorOf}
+use Rattle.frames.specs.Words.{All, AllSent, FilterAsks, Begins, bytes_at, Error, error_kind, Fits, FitsLine, ForwardAnswers, frame, frames, GaveNothing, Grammar, HasLines, HasPieces, IsLent, IsLine, IsOpen, IsPieces, lined, LineState, MetNoFault, OverCount, RanDry, rest, room_for, RunError, InputFault, Span, Stopped, StreamLog, WritesInOrder, with_newlines}
+use Rattle.programs.specs.Outcome.{Returns}
 use Rattle.frames.specs.Pack.{IsDue, PackedFirst, PackedLines, PackRan, Packs}
 use Rattle.frames.specs.Packing.{packing}
 use Rattle.frames.specs.PackingLaws.{all_ended, all_fit, packing_sound, some_frame}
 use Rattle.programs.specs.TakenIn.{SendsOnce, TakesAll}
-use Rattle.frames.specs.declared.error.RunError.TheVariants.{Io, TooLong}
+use Rattle.programs.specs.declared.error.RunError.TheVariants.{Io, Wrong}
+use Rattle.frames.specs.declared.fault.InputFault.TheVariants.{TooLong}
 use Rattle.frames.specs.declared.packing.Packing.{Packing}
 use Rattle.frames.proofs.PieceRuns.{outcome_ran}
 
@@ -187,7 +188,7 @@ module _ {R W : Type 0} (remaining : R → Option (List ℕ)) (s t : Packing R W
   abbrev Went : List (List ℕ) → List (List ℕ) → Type 0
   Went = Over remaining packing s t fresh unread
 
-  abbrev Ran : Result (Unit {0}) RunError → Type 0
+  abbrev Ran : Result (Unit {0}) (RunError InputFault) → Type 0
   Ran = PackRan max s.source.pieces.reader.log t.source.pieces.reader.log s.target.writer.log t.target.writer.log
 
   replied : (handed p : List (List ℕ)) (over : Went handed p)
@@ -243,11 +244,11 @@ module _ {R W : Type 0} (remaining : R → Option (List ℕ)) (s t : Packing R W
         flushed = sent.flushed;
       }
 
-  wrong_ran : (p : List (List ℕ)) → Went p p → (why : RunError) → (packing {R = R} {W = W}).wrong s why t
+  wrong_ran : (p : List (List ℕ)) → Went p p → (why : InputFault) → (packing {R = R} {W = W}).wrong s why t
       → AllSent t.target.writer
       → MetNoFault s.source.pieces.reader.log t.source.pieces.reader.log s.target.writer.log t.target.writer.log
-      → Ran (Err why)
-  wrong_ran p over why (is, long, open') sent met = subst (λ e. Ran (Err e)) (sym is) (
+      → Ran (Err (Wrong why))
+  wrong_ran p over why (is, long, open') sent met = subst (λ e. Ran (Err (Wrong e))) (sym is) (
     some_lines (BeginsTooLong max) p over open' sent
         (subst (λ d. BeginsTooLong d.max (rest t.source.pieces)) over.decoder long),
     met,
@@ -307,9 +308,8 @@ module _ {R W : Type 0} (remaining : R → Option (List ℕ)) (s t : Packing R W
       let (front, behind, equal, whole) = fronts (lined max) p next more over.bytes (texts (p ++ next ∷ more) p over) in
       whole_lines p (next ∷ more) over front behind equal whole (λ is. absurd (omega (arith, ap length is)))
 
-  pub packed : (answer : Result ℕ (Stopped RunError)) (outcome : Result (Unit {0}) RunError)
-      → MatchResult answer (λ _. IsOk outcome) (λ stopped. IsErrAnd outcome (IsErrorOf stopped.cause))
-      → ForwardAnswers (piece_rules remaining packing) s answer t → Ran outcome
+  pub packed : (answer : Result ℕ (Stopped InputFault)) (returned : Result (Unit {0}) (RunError InputFault))
+      → Returns answer returned → ForwardAnswers (piece_rules remaining packing) s answer t → Ran returned
   packed = outcome_ran remaining packing s t fresh unread packing_sound (λ e refused. refused) Ran ended_ran wrong_ran
       (λ p over open' still offered sent e failed. (
         some_lines (FitsLine max) p over still sent

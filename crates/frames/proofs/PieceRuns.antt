@@ -1,8 +1,6 @@
 -- What the outcome of a whole run over pieces comes to.
-use Rattle.std.proofs.Common.{ℕ, inl, inr, List, [], ◌++◌, length, false, Option, Result, Ok, Err, ◌≡◌, refl, sym, ap, subst, ◌∙◌, arith}
-use Rattle.std.proofs.lemmas.Bool.{false≢true}
+use Rattle.std.proofs.Common.{ℕ, inl, inr, List, [], ◌++◌, length, false, Option, Result, Ok, Err, ◌≡◌, sym, ap, subst, ◌∙◌, arith}
 use Rattle.std.proofs.lemmas.List.{nil_from_length}
-use Rattle.std.specs.Prelude.{IsErrAnd, IsOk, MatchResult}
 use Rattle.forward.specs.StreamsLaws.{WriteGaveUp-so}
 use Rattle.forward.specs.declared.error.Cause.{Cause}
 use Rattle.forward.specs.declared.error.Cause.TheVariants as cause
@@ -10,33 +8,25 @@ use Rattle.piece_filter.specs.PieceRuns.{Over, all_over, over_held, over_lost}
 use Rattle.piece_filter.specs.Pieces.{IsCoherent, OfferedWhole, PiecesEnd, Piecewise, grammar_of, held_of, piece_rules}
 use Rattle.piece_filter.specs.PiecesLaws.{none_held}
 use Rattle.frames.specs.Words.{Error, failure_count, Begins, IsOpen, rest, FilterRules, ForwardAnswers, NoneFailed, StopsBy, Stopped, AllSent, OverCount, ReadFailed, WriteGaveUp, RunError}
-use Rattle.frames.specs.Ending.{IsErrorOf}
-use Rattle.frames.specs.declared.error.RunError.TheVariants.{Read, Write, Io}
-
--- the outcome fails where the run did
-pub outcome_count : (answer : Result ℕ (Stopped RunError)) (outcome : Result (Unit {0}) RunError)
-    → MatchResult answer (λ _. IsOk outcome) (λ stopped. IsErrAnd outcome (IsErrorOf stopped.cause))
-    → failure_count answer ≡ failure_count outcome
-outcome_count (Ok count) (Ok _) is = refl
-outcome_count (Ok count) (Err e) is = absurd (false≢true is)
-outcome_count (Err stopped) (Ok _) is = absurd is
-outcome_count (Err halt) (Err e) is = refl
+use Rattle.programs.specs.Outcome.{IsErrorOf, Returns}
+use Rattle.programs.specs.OutcomeLaws.{Returns-says}
+use Rattle.programs.specs.declared.error.RunError.TheVariants.{Wrong, Read, Write, Io}
 
 -- a run from empty buffers on that says so of each way to end says so of its outcome
-module _ {T R D X A W : Type 0} (remaining : R → Option (List ℕ)) (f : Piecewise T R D X A W RunError) (s t : T)
+module _ {T R D X A W E : Type 0} (remaining : R → Option (List ℕ)) (f : Piecewise T R D X A W E) (s t : T)
     (fresh : (piece_rules remaining f).fresh s) (unread : (f.source s).reader.block.bytes ≡ []) (sound : IsCoherent f)
     (never : (e : Error) → ¬ (f.refused e t)) where
-  abbrev rules : FilterRules T RunError
+  abbrev rules : FilterRules T E
   rules = piece_rules remaining f
 
   abbrev Went : List (List ℕ) → List (List ℕ) → Type 0
   Went = Over remaining f s t fresh unread
 
-  module _ (Ran : Result (Unit {0}) RunError → Type 0)
+  module _ (Ran : Result (Unit {0}) (RunError E) → Type 0)
       (ended : (p : List (List ℕ)) → Went p p → PiecesEnd f s (Ok tt) t → AllSent (f.target t) → NoneFailed rules s t
       → Ran (Ok tt))
-      (wrong : (p : List (List ℕ)) → Went p p → (why : RunError) → f.wrong s why t → AllSent (f.target t) → NoneFailed rules s t
-      → Ran (Err why))
+      (wrong : (p : List (List ℕ)) → Went p p → (why : E) → f.wrong s why t → AllSent (f.target t) → NoneFailed rules s t
+      → Ran (Err (Wrong why)))
       (read : (p : List (List ℕ)) → Went p p → IsOpen (grammar_of f t) (rest (f.source t)) → (f.source t).ended ≡ false
       → (rest (f.source t) ≡ [] → OfferedWhole (f.source t)) → AllSent (f.target t) → (e : Error)
       → ReadFailed e (rules.read s) (rules.read t) (rules.target s).log (rules.target t).log → Ran (Err (Read e)))
@@ -46,7 +36,7 @@ module _ {T R D X A W : Type 0} (remaining : R → Option (List ℕ)) (f : Piece
       → Ran (Err (Write e)))
       (full : (p lost : List (List ℕ)) → Went (p ++ lost) p → (e : Error)
       → OverCount e (length p) (rules.read s) (rules.read t) (rules.target s).log (rules.target t).log → Ran (Err (Io e))) where
-    stopped : (count : ℕ) (why : Cause RunError) (e : RunError) → StopsBy rules count s why t → IsErrorOf why e → Ran (Err e)
+    stopped : (count : ℕ) (why : Cause E) (e : RunError E) → StopsBy rules count s why t → IsErrorOf why e → Ran (Err e)
     stopped count (cause.Wrong why) e (over, (none, end), sent, met) is = subst (λ x. Ran (Err x)) (sym is)
         (wrong over.payloads (all_over remaining f s t fresh unread count over none) why end (sound.all_sent t sent) met)
     stopped count (cause.Read fault) e (over, (none, open', going, whole), sent, again, failed) is =
@@ -64,11 +54,7 @@ module _ {T R D X A W : Type 0} (remaining : R → Option (List ℕ)) (f : Piece
         (full over.payloads (held_of f t) (over_held remaining f s t fresh unread count over) is.0
         (record { other = is.1; large = omega (arith, large, over.all); met = met }))
 
-    pub outcome_ran : (answer : Result ℕ (Stopped RunError)) (outcome : Result (Unit {0}) RunError)
-        → MatchResult answer (λ _. IsOk outcome) (λ stopped. IsErrAnd outcome (IsErrorOf stopped.cause))
-        → ForwardAnswers rules s answer t → Ran outcome
-    outcome_ran (Ok count) (Ok _) is (over, (none, end), sent, met) =
-        ended over.payloads (all_over remaining f s t fresh unread count over none) end (sound.all_sent t sent) met
-    outcome_ran (Ok count) (Err e) is p = absurd (false≢true is)
-    outcome_ran (Err stopped) (Ok _) is p = absurd is
-    outcome_ran (Err halt) (Err e) is p = stopped halt.count halt.cause e p is
+    pub outcome_ran : (answer : Result ℕ (Stopped E)) (returned : Result (Unit {0}) (RunError E)) → Returns answer returned
+        → ForwardAnswers rules s answer t → Ran returned
+    outcome_ran = Returns-says rules s t Ran (λ count (over, (none, end), sent, met).
+        ended over.payloads (all_over remaining f s t fresh unread count over none) end (sound.all_sent t sent) met) stopped

@@ -4,7 +4,6 @@ use Rattle.std.proofs.lemmas.Bool.{true≢false}
 use Rattle.std.proofs.Math.Seq.{take-append_seam}
 use Rattle.std.proofs.lemmas.List.Concat.{flat_map-append}
 use Rattle.std.proofs.lemmas.List.Elements.{All-nil, All-take}
-use Rattle.std.specs.Prelude.{IsErrAnd, IsOk, MatchResult}
 use Rattle.std.specs.declared.io.ErrorKind.TheVariants.{OutOfMemory}
 use Rattle.codec.specs.NextPieceLaws.{MetEnd-once}
 use Rattle.forward.specs.PromptLaws.{RunsPromptly-none}
@@ -20,12 +19,13 @@ use Rattle.piece_filter.specs.PieceRuns.{Over, all_received}
 use Rattle.piece_filter.specs.Pieces.{HasEnded, IsReady, Keeps, piece_rules}
 use Rattle.piece_filter.specs.PiecesCalls as pieces
 use Rattle.piece_filter.specs.PiecesLaws.{coded_all}
-use Rattle.frames.specs.Words.{All, AllSent, FilterAsks, Begins, bytes_at, Error, error_kind, Fits, ForwardAnswers, framed, frames, GaveNothing, IsCutShort, IsLent, IsOpen, MetNoFault, RanDry, ReaderState, rest, room_for, RunError, Span, Stopped, StreamLog, with_newline, with_newlines}
-use Rattle.frames.specs.Ending.{IsErrorOf}
+use Rattle.frames.specs.Words.{All, AllSent, FilterAsks, Begins, bytes_at, Error, error_kind, Fits, ForwardAnswers, framed, frames, GaveNothing, IsCutShort, IsLent, IsOpen, MetNoFault, RanDry, ReaderState, rest, room_for, RunError, InputFault, Span, Stopped, StreamLog, with_newline, with_newlines}
+use Rattle.programs.specs.Outcome.{Returns}
 use Rattle.frames.specs.Unpack.{IsDue, Unpacked, UnpackedFirst, UnpackRan, Unpacks}
 use Rattle.frames.specs.Unpacking.{unpacking}
 use Rattle.frames.specs.UnpackingLaws.{all_frames, unpacking_sound}
-use Rattle.frames.specs.declared.error.RunError.TheVariants.{Io, TooLong, Truncated}
+use Rattle.programs.specs.declared.error.RunError.TheVariants.{Io, Wrong}
+use Rattle.frames.specs.declared.fault.InputFault.TheVariants.{TooLong, Truncated}
 use Rattle.frames.specs.declared.unpacking.Unpacking.{Unpacking}
 use Rattle.frames.proofs.PieceRuns.{outcome_ran}
 
@@ -124,7 +124,7 @@ module _ {R W : Type 0} (remaining : R → Option (List ℕ)) (s t : Unpacking R
   abbrev Went : List (List ℕ) → List (List ℕ) → Type 0
   Went = Over remaining unpacking s t fresh unread
 
-  abbrev Ran : Result (Unit {0}) RunError → Type 0
+  abbrev Ran : Result (Unit {0}) (RunError InputFault) → Type 0
   Ran = UnpackRan max s.source.reader.log t.source.reader.log s.target.log t.target.log
 
   replied : (handed p : List (List ℕ)) (over : Went handed p)
@@ -149,11 +149,11 @@ module _ {R W : Type 0} (remaining : R → Option (List ℕ)) (s t : Unpacking R
     flushed = sent.flushed;
   }
 
-  wrong_ran : (p : List (List ℕ)) → Went p p → (why : RunError) → (unpacking {R = R} {W = W}).wrong s why t → AllSent t.target
-      → MetNoFault s.source.reader.log t.source.reader.log s.target.log t.target.log → Ran (Err why)
-  wrong_ran p over why (inl (is, long)) sent met = subst (λ e. Ran (Err e)) (sym is)
+  wrong_ran : (p : List (List ℕ)) → Went p p → (why : InputFault) → (unpacking {R = R} {W = W}).wrong s why t → AllSent t.target
+      → MetNoFault s.source.reader.log t.source.reader.log s.target.log t.target.log → Ran (Err (Wrong why))
+  wrong_ran p over why (inl (is, long)) sent met = subst (λ e. Ran (Err (Wrong e))) (sym is)
       (rest t.source, unpacked p over sent, subst (λ d. BeginsAbove d.max (rest t.source)) over.decoder long, met)
-  wrong_ran p over why (inr (is, cut, dry)) sent met = subst (λ e. Ran (Err e)) (sym is) (
+  wrong_ran p over why (inr (is, cut, dry)) sent met = subst (λ e. Ran (Err (Wrong e))) (sym is) (
     rest t.source,
     unpacked p over sent,
     subst (λ d. IsCutShort d.max (rest t.source)) over.decoder cut,
@@ -177,9 +177,8 @@ module _ {R W : Type 0} (remaining : R → Option (List ℕ)) (s t : Unpacking R
     received = over.received ∙ replied (p ++ lost) p over;
   }
 
-  pub unpacked_all : (answer : Result ℕ (Stopped RunError)) (outcome : Result (Unit {0}) RunError)
-      → MatchResult answer (λ _. IsOk outcome) (λ stopped. IsErrAnd outcome (IsErrorOf stopped.cause))
-      → ForwardAnswers (piece_rules remaining unpacking) s answer t → Ran outcome
+  pub unpacked_all : (answer : Result ℕ (Stopped InputFault)) (returned : Result (Unit {0}) (RunError InputFault))
+      → Returns answer returned → ForwardAnswers (piece_rules remaining unpacking) s answer t → Ran returned
   unpacked_all = outcome_ran remaining unpacking s t fresh unread unpacking_sound (λ e refused. refused) Ran
       (λ p over end sent met. (
         subst (Unpacked max s.source.reader.log t.source.reader.log s.target.log t.target.log) end.0 (unpacked p over sent),

@@ -1,5 +1,4 @@
-pub mod Asked
-pub mod Ending
+pub mod InputFault
 pub mod Pack
 pub mod Packing
 pub mod PackingLaws

@@ -1,8 +1,9 @@
 -- What a run of `pack` moves from a reader to a writer.
 use Rattle.std.specs.Prelude.{◌≡◌, ℕ, ◌+◌, ◌⊎◌, List, [], ◌++◌, length, Result, Ok, Err}
 use Rattle.line_reader.specs.Lines.{BeginsTooLong}
-use Rattle.frames.specs.Words.{failure_count, All, StreamLog, Begins, lined, Fits, frames, FitsLine, IsLine, HasLines, with_newlines, RunError, RunsPromptly, MetNoFault, ReadFailed as AReadFailed, WriteGaveUp, OverCount, RefusedBeforeCalls, GaveNothing, ReceivedFlushed, room_for}
-use Rattle.frames.specs.declared.error.RunError.TheVariants.{TooLong, Truncated, Read, Write, Io}
+use Rattle.frames.specs.Words.{failure_count, All, StreamLog, Begins, lined, Fits, frames, FitsLine, IsLine, HasLines, with_newlines, RunError, InputFault, RunsPromptly, MetNoFault, ReadFailed as AReadFailed, WriteGaveUp, OverCount, RefusedBeforeCalls, GaveNothing, ReceivedFlushed, room_for}
+use Rattle.programs.specs.declared.error.RunError.TheVariants.{Wrong, Read, Write, Io}
+use Rattle.frames.specs.declared.fault.InputFault.TheVariants.{TooLong, Truncated}
 
 -- what is due of these bytes: the frames of all whole lines in them
 pub record IsDue (most : ℕ) (bytes due : List ℕ) : Type 0 where
@@ -47,13 +48,13 @@ NoLineLeft {most} first = (first.unsent ≡ []) × ¬ (Begins (lined most) first
 -- what a run of `pack` did: at Ok all that was given is a text of lines that fit, and all their frames were received and flushed.
 -- Where a read failed no line that came is lost, and the last ask was for the whole buffer if no line was begun. Any other fault
 -- is a writer's, or a buffer was refused before the run began, or it ended at its count
-abbrev pub PackRan : ℕ → StreamLog → StreamLog → StreamLog → StreamLog → Result (Unit {0}) RunError → Type 0
+abbrev pub PackRan : ℕ → StreamLog → StreamLog → StreamLog → StreamLog → Result (Unit {0}) (RunError InputFault) → Type 0
 PackRan most read read' written written' (Ok _) =
     (all : PackedFirst most read read' written written') × (all.more ≡ []) × (all.unsent ≡ []) × GaveNothing read read'
     × ReceivedFlushed written' × MetNoFault read read' written written'
-PackRan most read read' written written' (Err TooLong) =
+PackRan most read read' written written' (Err (Wrong TooLong)) =
     PackedLines (BeginsTooLong most) most read read' written written' × MetNoFault read read' written written'
-PackRan most read read' written written' (Err Truncated) = ⊥
+PackRan most read read' written written' (Err (Wrong Truncated)) = ⊥
 PackRan most read read' written written' (Err (Read e)) =
     (all : PackedLines (FitsLine most) most read read' written written') × AReadFailed e read read' written written'
     × (all.more ≡ [] → read'.reads.offer ≡ room_for 8192 (1 + most))
@@ -64,6 +65,6 @@ PackRan most read read' written written' (Err (Io e)) =
     × (OverCount e (length first.lines) read read' written written' ⊎ RefusedBeforeCalls e read read' written written')
 
 -- all that a run of `pack` promises: the writer was flushed once for each ask of the reader at most, and twice more
-pub record Packs (most : ℕ) (read read' written written' : StreamLog) (answer : Result (Unit {0}) RunError) : Type 0 where
+pub record Packs (most : ℕ) (read read' written written' : StreamLog) (answer : Result (Unit {0}) (RunError InputFault)) : Type 0 where
   pub ran : PackRan most read read' written written' answer
   pub promptly : RunsPromptly (IsDue most) (failure_count answer) 2 read read' written written'

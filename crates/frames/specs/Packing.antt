@@ -3,14 +3,14 @@ use Rattle.std.specs.Prelude.{◌≡◌, ◌≤◌, length, false, IfSome}
 use Rattle.codec.specs.declared.TooLong as piece
 use Rattle.line_reader.specs.Lines.{BeginsTooLong}
 use Rattle.line_reader.specs.declared.line.Lines.{Lines}
-use Rattle.frames.specs.Words.{bytes_at, rest, AllSent, frame, lined, RunError}
+use Rattle.frames.specs.Words.{bytes_at, rest, AllSent, frame, lined, InputFault}
 use Rattle.frames.specs.Pack.{IsDue}
 use Rattle.piece_filter.specs.Pieces.{Piecewise}
-use Rattle.frames.specs.declared.error.RunError.TheVariants.{TooLong}
+use Rattle.frames.specs.declared.fault.InputFault.TheVariants.{TooLong}
 use Rattle.frames.specs.declared.packing.Packing.{Packing}
 
 -- each line has a frame, also one that is held, and none is being skipped; a line that is too long is wrong
-abbrev pub packing : {R W : Type 0} → Piecewise (Packing R W) R Lines piece.TooLong (Unit {0}) W RunError
+abbrev pub packing : {R W : Type 0} → Piecewise (Packing R W) R Lines piece.TooLong (Unit {0}) W InputFault
 packing = record {
   source = λ s. s.source.pieces;
   held = λ s. s.held;

@@ -1,8 +1,9 @@
 -- What a run of `unpack` moves from a reader to a writer.
 use Rattle.std.specs.Prelude.{◌≡◌, ℕ, ◌+◌, List, [], ◌++◌, length, ◌⊎◌, Result, Ok, Err}
 use Rattle.frame_reader.specs.Frames.{BeginsAbove}
-use Rattle.frames.specs.Words.{failure_count, All, StreamLog, Begins, IsOpen, SplitsIntoFrames, framed, Fits, IsCutShort, frames, RunError, with_newlines, RunsPromptly, MetNoFault, ReadFailed as AReadFailed, WriteGaveUp, OverCount, RefusedBeforeCalls, GaveNothing, ReceivedFlushed, room_for}
-use Rattle.frames.specs.declared.error.RunError.TheVariants.{TooLong, Truncated, Read, Write, Io}
+use Rattle.frames.specs.Words.{failure_count, All, StreamLog, Begins, IsOpen, SplitsIntoFrames, framed, Fits, IsCutShort, frames, RunError, InputFault, with_newlines, RunsPromptly, MetNoFault, ReadFailed as AReadFailed, WriteGaveUp, OverCount, RefusedBeforeCalls, GaveNothing, ReceivedFlushed, room_for}
+use Rattle.programs.specs.declared.error.RunError.TheVariants.{Wrong, Read, Write, Io}
+use Rattle.frames.specs.declared.fault.InputFault.TheVariants.{TooLong, Truncated}
 
 -- what is due of these bytes: the payloads of all whole frames in them, as lines
 pub record IsDue (most : ℕ) (bytes due : List ℕ) : Type 0 where
@@ -37,14 +38,14 @@ NoFrameLeft {most} first = (first.unsent ≡ []) × ¬ (Begins (framed most) fir
 -- what a run of `unpack` did: at Ok all that was given is frames, and else some bytes behind them aren't. Where a read failed
 -- no payload that came is lost. In both the last ask was for the whole buffer if no frame was begun. Any other fault is a
 -- writer's, or a buffer was refused before the run began, or it ended at its count
-abbrev pub UnpackRan : ℕ → StreamLog → StreamLog → StreamLog → StreamLog → Result (Unit {0}) RunError → Type 0
+abbrev pub UnpackRan : ℕ → StreamLog → StreamLog → StreamLog → StreamLog → Result (Unit {0}) (RunError InputFault) → Type 0
 UnpackRan most read read' written written' (Ok _) =
     Unpacked most read read' written written' [] × GaveNothing read read' × MetNoFault read read' written written'
     × (read'.reads.offer ≡ room_for 8192 (2 + most))
-UnpackRan most read read' written written' (Err TooLong) =
+UnpackRan most read read' written written' (Err (Wrong TooLong)) =
     (more : List ℕ) × Unpacked most read read' written written' more × BeginsAbove most more
     × MetNoFault read read' written written'
-UnpackRan most read read' written written' (Err Truncated) =
+UnpackRan most read read' written written' (Err (Wrong Truncated)) =
     (more : List ℕ) × Unpacked most read read' written written' more × IsCutShort most more × GaveNothing read read'
     × MetNoFault read read' written written'
 UnpackRan most read read' written written' (Err (Read e)) =
@@ -57,6 +58,6 @@ UnpackRan most read read' written written' (Err (Io e)) =
     × (OverCount e (length first.lines) read read' written written' ⊎ RefusedBeforeCalls e read read' written written')
 
 -- all that a run of `unpack` promises: the writer was flushed once for each ask of the reader at most, and twice more
-pub record Unpacks (most : ℕ) (read read' written written' : StreamLog) (answer : Result (Unit {0}) RunError) : Type 0 where
+pub record Unpacks (most : ℕ) (read read' written written' : StreamLog) (answer : Result (Unit {0}) (RunError InputFault)) : Type 0 where
   pub ran : UnpackRan most read read' written written' answer
   pub promptly : RunsPromptly (IsDue most) (failure_count answer) 2 read read' written written'

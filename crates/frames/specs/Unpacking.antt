@@ -6,10 +6,10 @@ use Rattle.buffer_redux.specs.declared.policy.StdPolicy.{StdPolicy}
 use Rattle.frame_reader.specs.Frames.{BeginsAbove}
 use Rattle.frame_reader.specs.declared.frame.FrameFault.{FrameFault}
 use Rattle.frame_reader.specs.declared.frame.Frames.{Frames}
-use Rattle.frames.specs.Words.{RanDry, rest, AllSent, framed, IsCutShort, with_newline, RunError}
+use Rattle.frames.specs.Words.{RanDry, rest, AllSent, framed, IsCutShort, with_newline, InputFault}
 use Rattle.piece_filter.specs.Pieces.{Piecewise}
 use Rattle.frames.specs.Unpack.{IsDue}
-use Rattle.frames.specs.declared.error.RunError.TheVariants.{TooLong, Truncated}
+use Rattle.frames.specs.declared.fault.InputFault.TheVariants.{TooLong, Truncated}
 use Rattle.frames.specs.declared.unpacking.Unpacking.{Unpacking}
 
 -- a buffered writer of lines: the longest, with its end, is smaller than its buffer
@@ -19,7 +19,7 @@ pub record IsLineTarget {W : Type 0} (most : ℕ) (u : Buffered W StdPolicy) : T
 
 -- each payload has a line, and no end is left to tell. A frame that is too long is wrong; and so is less than one, where the
 -- reader gave no more
-abbrev pub unpacking : {R W : Type 0} → Piecewise (Unpacking R W) R Frames FrameFault (Unit {0}) W RunError
+abbrev pub unpacking : {R W : Type 0} → Piecewise (Unpacking R W) R Frames FrameFault (Unit {0}) W InputFault
 unpacking = record {
   source = λ s. s.source;
   held = λ s. s.held;

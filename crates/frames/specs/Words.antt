@@ -16,9 +16,10 @@ pub use Rattle.forward.specs.Target.{failure_count}
 pub use Rattle.forward.specs.declared.error.Stopped.{Stopped}
 pub use Rattle.frame_reader.specs.Framed.{SplitsIntoFrames, framed}
 pub use Rattle.frame_reader.specs.Frames.{Fits, IsCutShort, frame, frames, header}
-pub use Rattle.frames.specs.declared.error.RunError.{RunError}
+pub use Rattle.frames.specs.declared.fault.InputFault.{InputFault}
 pub use Rattle.line_reader.specs.LineReader.{LineState, lined}
 pub use Rattle.line_reader.specs.Lines.{FitsLine, HasLines, IsLine, newline, with_newline, with_newlines}
+pub use Rattle.programs.specs.declared.error.RunError.{RunError}
 pub use Rattle.programs.specs.Streams.{AllSent, GaveNothing, MetNoFault, OverCount, ReadFailed, ReceivedFlushed, RefusedBeforeCalls}
 pub use Rattle.std.specs.IoError.{error_kind}
 pub use Rattle.std.specs.List.{All}

@@ -4,31 +4,30 @@
 //! line feeds in it.
 #![tactic(auto)]
 
-mod ending;
-mod error;
+mod fault;
 mod pack;
 mod packing;
 mod run;
 mod unpack;
 mod unpacking;
 
-use crate::ending::Ending;
+use crate::fault::InputFault;
+use crate::run::{run_asked, said};
 use buffer_redux::tell::Told;
-use programs::Ending as Usual;
+use programs::Outcome;
 use std::process::ExitCode;
 
 // Does what the word that the program was given asks for.
-fn outcome(rt: &HostRuntime) -> Ending {
+fn asked(rt: &HostRuntime) -> Outcome<InputFault> {
     let words = match programs::args(rt) {
-        Ok(Some(words)) => words,
-        Ok(None) => return Ending::Usual(Usual::Usage),
-        Err(e) => return Ending::Usual(Usual::of_fault(&e)),
+        Ok(words) => words,
+        Err(ending) => return Outcome::Usual(ending),
     };
     let (reader, writer) = (Told::new(rt.stdin()), Told::new(rt.stdout()));
-    run::run_asked(rt.alloc(), words.as_slice(), reader, writer).0
+    run_asked(rt.alloc(), words.as_slice(), reader, writer).0
 }
 
 fn main(rt: HostRuntime) -> ExitCode {
-    let ending = outcome(&rt);
-    programs::end(&rt, ending.status(), ending)
+    let outcome = asked(&rt);
+    programs::end(&rt, outcome.status(), said(outcome))
 }

@@ -5,13 +5,14 @@ ghost use Rattle.codec.specs.PieceWriter.{unsent};
 ghost use Rattle.line_reader.specs.LineReader.{IsLineReader};
 ghost use Rattle.frames.specs.Pack.{Packs};
 
-use crate::error::RunError;
+use crate::fault::InputFault;
 use crate::packing::Packing;
 use buffer_redux::MakeError;
 use buffer_redux::tell::{TellRead, TellWrite};
 use forward::{Link, forward};
 use frame_reader::FrameWriter;
 use line_reader::LineReader;
+use programs::RunError;
 use std::alloc::Global;
 
 /// Makes each line that `reader` gives a frame, and sends the frames to `writer`. What stands behind the last line's end is
@@ -25,7 +26,7 @@ pub fn pack<R: TellRead, W: TellWrite>(
     most: u16,
     reader: R,
     writer: W,
-) -> (Result<(), RunError>, R, W)
+) -> (Result<(), RunError<InputFault>>, R, W)
     ensures { Packs most (R.log reader) (R.log result.1) (W.log writer) (W.log result.2) result.0 }
 {
     let source = match LineReader::new(alloc, reader, usize::from(most)) {
@@ -49,7 +50,11 @@ pub fn pack<R: TellRead, W: TellWrite>(
 fn pack_all<R: TellRead, W: TellWrite>(
     source: LineReader<R>,
     target: FrameWriter<W>,
-) -> (Result<(), RunError>, LineReader<R>, FrameWriter<W>)
+) -> (
+    Result<(), RunError<InputFault>>,
+    LineReader<R>,
+    FrameWriter<W>,
+)
     requires most { source.pieces.decoder.max ≡ target.encoder.max }
     requires whole { IsLineReader source }
     requires going { source.pieces.ended ≡ false }

@@ -9,7 +9,7 @@ ghost use Rattle.frames.specs.Words.{frame};
 ghost use Rattle.piece_filter.specs.Pieces.{IsReady, piece_rules};
 ghost use Rattle.programs.specs.TakenIn.{TakesAll};
 
-use crate::error::RunError;
+use crate::fault::InputFault;
 use buffer_redux::tell::{TellRead, TellWrite};
 use codec::Span;
 use forward::{AskError, Filter};
@@ -26,7 +26,7 @@ pub struct Packing<R: TellRead, W: TellWrite> {
 }
 
 impl<R: TellRead, W: TellWrite> Filter for Packing<R, W> {
-    type Wrong = RunError;
+    type Wrong = InputFault;
 
     ghost rules = { piece_rules R.remaining packing };
 
@@ -48,7 +48,7 @@ impl<R: TellRead, W: TellWrite> Filter for Packing<R, W> {
         self.target.flush()
     }
 
-    fn ask(&mut self) -> Result<bool, AskError<RunError>> {
+    fn ask(&mut self) -> Result<bool, AskError<InputFault>> {
         // The stream ended behind a last line without an end.
         if self.source.has_ended() {
             return Ok(false);
@@ -60,7 +60,7 @@ impl<R: TellRead, W: TellWrite> Filter for Packing<R, W> {
                 Ok(true)
             }
             Ok(None) => Ok(false),
-            Err(LineError::TooLong(_)) => Err(AskError::Wrong(RunError::TooLong)),
+            Err(LineError::TooLong(_)) => Err(AskError::Wrong(InputFault::TooLong)),
             Err(LineError::Io(e)) => {
                 if self.source.rest().len() > have {
                     Err(AskError::IoBehind(e))

@@ -1,12 +1,14 @@
 //! A run as words ask for it, over any two streams that tell.
-ghost use Rattle.std.specs.Prelude.{map, string_bytes};
-ghost use Rattle.frames.specs.Asked.{RunDid};
+ghost use Rattle.std.specs.Prelude.{◌≡◌, codes, map, string_bytes};
+ghost use Rattle.programs.specs.Outcome.{RunsOneOf};
+ghost use Rattle.frames.specs.Pack.{Packs};
+ghost use Rattle.frames.specs.Unpack.{Unpacks};
 
-use crate::ending::Ending;
+use crate::fault::InputFault;
 use crate::pack::pack;
 use crate::unpack::unpack;
 use buffer_redux::tell::{TellRead, TellWrite};
-use programs::only_word;
+use programs::{Ending, Outcome, Report, only_word};
 use std::alloc::Global;
 
 // The greatest length of a line or a payload.
@@ -19,18 +21,32 @@ pub fn run_asked<R: TellRead, W: TellWrite>(
     words: &[String],
     reader: R,
     writer: W,
-) -> (Ending, R, W)
-    ensures { RunDid (map string_bytes words.now) result.0 (R.log reader) (R.log result.1) (W.log writer) (W.log result.2) }
+) -> (Outcome<InputFault>, R, W)
+    ensures { RunsOneOf (codes "pack") (codes "unpack") (Packs 65535) (Unpacks 65535) (map string_bytes words.now) result.0
+        (R.log reader) (R.log result.1) (W.log writer) (W.log result.2) }
 {
     match only_word(words) {
         Some("pack") => {
             let (answer, reader, writer) = pack(alloc, GREATEST, reader, writer);
-            (Ending::of(&answer), reader, writer)
+            (Outcome::of(&answer), reader, writer)
         }
         Some("unpack") => {
             let (answer, reader, writer) = unpack(alloc, GREATEST, reader, writer);
-            (Ending::of(&answer), reader, writer)
+            (Outcome::of(&answer), reader, writer)
         }
-        _ => (Ending::Usual(programs::Ending::Usage), reader, writer),
+        _ => (Outcome::Usual(Ending::Usage), reader, writer),
+    }
+}
+
+/// What the program says of an outcome.
+pub fn said(outcome: Outcome<InputFault>) -> Report<'static, InputFault>
+    ensures program { result.program.now ≡ codes "frames" }
+    ensures usage { result.usage.now ≡ codes "pack|unpack" }
+    ensures outcome { result.outcome ≡ outcome }
+{
+    Report {
+        program: "frames",
+        usage: "pack|unpack",
+        outcome,
     }
 }

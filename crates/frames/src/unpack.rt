@@ -5,13 +5,13 @@ ghost use Rattle.frame_reader.specs.Next.{ReadsFrames};
 ghost use Rattle.frames.specs.Unpack.{Unpacks};
 ghost use Rattle.frames.specs.Unpacking.{IsLineTarget};
 
-use crate::error::RunError;
+use crate::fault::InputFault;
 use crate::unpacking::Unpacking;
 use buffer_redux::tell::{TellRead, TellWrite};
 use buffer_redux::{BufWriter, MakeError};
 use forward::{Link, forward};
 use frame_reader::FrameReader;
-use programs::buffered_writer;
+use programs::{RunError, buffered_writer};
 use std::alloc::Global;
 
 /// Prints the payload of each frame that `reader` gives as a line on `writer`. Bytes that are no frame of at most `most`
@@ -25,7 +25,7 @@ pub fn unpack<R: TellRead, W: TellWrite>(
     most: u16,
     reader: R,
     writer: W,
-) -> (Result<(), RunError>, R, W)
+) -> (Result<(), RunError<InputFault>>, R, W)
     ensures { Unpacks most (R.log reader) (R.log result.1) (W.log writer) (W.log result.2) result.0 }
 {
     let source = match FrameReader::new(alloc, reader, most) {
@@ -49,7 +49,11 @@ pub fn unpack<R: TellRead, W: TellWrite>(
 fn unpack_all<R: TellRead, W: TellWrite>(
     source: FrameReader<R>,
     target: BufWriter<W>,
-) -> (Result<(), RunError>, FrameReader<R>, BufWriter<W>)
+) -> (
+    Result<(), RunError<InputFault>>,
+    FrameReader<R>,
+    BufWriter<W>,
+)
     requires target { IsLineTarget source.decoder.max target }
     requires reads { ReadsFrames source }
     requires nothing { source.reader.block.bytes ≡ [] }

@@ -3,7 +3,7 @@ ghost use Rattle.frames.specs.Unpacking.{unpacking};
 ghost use Rattle.piece_filter.specs.Pieces.{piece_rules};
 ghost use Rattle.frames.specs.UnpackingLaws.{unpacking_lawful};
 
-use crate::error::RunError;
+use crate::fault::InputFault;
 use buffer_redux::BufWriter;
 use buffer_redux::tell::{TellRead, TellWrite};
 use codec::Span;
@@ -22,7 +22,7 @@ pub struct Unpacking<R: TellRead, W: TellWrite> {
 }
 
 impl<R: TellRead, W: TellWrite> Filter for Unpacking<R, W> {
-    type Wrong = RunError;
+    type Wrong = InputFault;
 
     ghost rules = { piece_rules R.remaining unpacking };
 
@@ -46,7 +46,7 @@ impl<R: TellRead, W: TellWrite> Filter for Unpacking<R, W> {
         self.target.flush()
     }
 
-    fn ask(&mut self) -> Result<bool, AskError<RunError>> {
+    fn ask(&mut self) -> Result<bool, AskError<InputFault>> {
         let have = self.source.rest().len();
         match self.source.step() {
             Ok(Some(span)) => {
@@ -54,8 +54,8 @@ impl<R: TellRead, W: TellWrite> Filter for Unpacking<R, W> {
                 Ok(true)
             }
             Ok(None) => Ok(false),
-            Err(FrameError::TooLong(_)) => Err(AskError::Wrong(RunError::TooLong)),
-            Err(FrameError::Truncated(_)) => Err(AskError::Wrong(RunError::Truncated)),
+            Err(FrameError::TooLong(_)) => Err(AskError::Wrong(InputFault::TooLong)),
+            Err(FrameError::Truncated(_)) => Err(AskError::Wrong(InputFault::Truncated)),
             Err(FrameError::Io(e)) => {
                 if self.source.rest().len() > have {
                     Err(AskError::IoBehind(e))

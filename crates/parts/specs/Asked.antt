@@ -17,8 +17,9 @@ use Rattle.parts.specs.Sections.{GetAnswers, SaysName, ListAnswers, NoneNamed, P
 use Rattle.parts.specs.declared.error.RunError.{RunError}
 use Rattle.parts.specs.declared.error.RunError.TheVariants as Why
 use Rattle.programs.specs.declared.ending.Ending.TheVariants.{Memory, Usage}
-use Rattle.parts.specs.declared.ending.Ending.{Ending}
-use Rattle.parts.specs.declared.ending.Ending.TheVariants.{Usual}
+use Rattle.parts.specs.declared.ending.InputFault.{InputFault}
+use Rattle.programs.specs.declared.outcome.Outcome.{Outcome}
+use Rattle.programs.specs.declared.outcome.Outcome.TheVariants.{Usual}
 
 -- the words that ask for the list of the parts, and for the part of a name
 abbrev pub list_words : List ℕ → List (List ℕ)
@@ -99,7 +100,7 @@ module _ {T : Type 0} (tells : T → StreamLog) (trace : T → T → Type 0) whe
   FlushedUnless answer u last v = FlushedBehind answer u last v
 
   -- how a run with this answer was ended: it said so, and the writer was left so
-  pub record WasEnded (answer : Result (Unit {0}) RunError) (v : Buffered T StdPolicy) (ending : Ending) (written' : StreamLog)
+  pub record WasEnded (answer : Result (Unit {0}) RunError) (v : Buffered T StdPolicy) (ending : Outcome InputFault) (written' : StreamLog)
       : Type 0 where
     pub last : Result (Unit {0}) RunError
     pub w : Buffered T StdPolicy
@@ -113,7 +114,7 @@ RunSent None = ListedAll
 RunSent (Some name) = GotPart name
 
 -- the buffers of a run were refused
-pub record RanNot (ending : Ending) (read read' written written' : StreamLog) : Type 0 where
+pub record RanNot (ending : Outcome InputFault) (read read' written written' : StreamLog) : Type 0 where
   pub memory : ending ≡ Usual Memory
   pub read_same : read' ≡ read
   pub written_same : written' ≡ written
@@ -126,7 +127,7 @@ module _ {S T : Type 0} (remaining : S → Option (List ℕ)) (tells : T → Str
   RunAnswers (Some name) = GetAnswers tells trace name
 
   -- what a run did of which that comes, and that ended so: at Done that was sent. The writer was flushed once at most
-  pub record DidSo (name : Option (List ℕ)) (s : FormState S StdPolicy) (u : Buffered T StdPolicy) (ending : Ending)
+  pub record DidSo (name : Option (List ℕ)) (s : FormState S StdPolicy) (u : Buffered T StdPolicy) (ending : Outcome InputFault)
       (read' written' : StreamLog) : Type 0 where
     pub answer : Result (Unit {0}) RunError
     pub t : FormState S StdPolicy
@@ -138,7 +139,7 @@ module _ {S T : Type 0} (remaining : S → Option (List ℕ)) (tells : T → Str
     pub sent : OnOk over.last (RunSent name s.body.coding s.other s.body.reader.log read' u.log written')
 
   -- the same of a body with this boundary from the streams on, through plain buffers of 16384 bytes, which are empty at first
-  pub record RanSo (name : Option (List ℕ)) (boundary : List ℕ) (ending : Ending) (read read' written written' : StreamLog)
+  pub record RanSo (name : Option (List ℕ)) (boundary : List ℕ) (ending : Outcome InputFault) (read read' written written' : StreamLog)
       : Type 0 where
     pub s : FormState S StdPolicy
     pub u : Buffered T StdPolicy
@@ -152,7 +153,7 @@ module _ {S T : Type 0} (remaining : S → Option (List ℕ)) (tells : T → Str
 
   -- what a run did, and that it ended so: these words ask for nothing, and no stream was called; or they do, and the buffers were
   -- refused, or it did that
-  abbrev pub RunDid : List (List ℕ) → Ending → StreamLog → StreamLog → StreamLog → StreamLog → Type 0
+  abbrev pub RunDid : List (List ℕ) → Outcome InputFault → StreamLog → StreamLog → StreamLog → StreamLog → Type 0
   RunDid words ending read read' written written' =
       (NoneAsked words × (ending ≡ Usual Usage) × (read' ≡ read) × (written' ≡ written))
       ⊎ ((boundary : List ℕ) × (name : Option (List ℕ)) × IsBoundary boundary × Asks words boundary name

@@ -1,17 +1,15 @@
 //! How a run ends, and what the program says of it.
-ghost use Rattle.std.specs.Prelude.{◌≡◌};
+ghost use Rattle.parts.specs.Ending.{EndsAs, PartEndsAs};
 
 use crate::error::RunError;
 use body_reader::BodyError;
 use multipart::PartError;
-use programs::{Ending as Usual, Report};
+use programs::{Ending, Fault, Outcome};
 use std::fmt;
 
-/// How a run ends.
+/// What may be wrong with the input, or with what is asked of it.
 #[derive(Clone, Copy, Debug)]
-pub enum Ending {
-    /// As that of any program may.
-    Usual(Usual),
+pub enum InputFault {
     /// A boundary isn't alone in its line, or stands in a head.
     Boundary,
     /// The head of a part is too long.
@@ -24,76 +22,63 @@ pub enum Ending {
     Missing,
 }
 
-impl Ending {
-    ghost use Rattle.parts.specs.Ending.{EndsAs, PartEndsAs, status_of};
+impl Fault for InputFault {
+    ghost use Rattle.parts.specs.Ending.{status_of, status_own};
 
-    /// How a run ends that returned this.
-    pub fn of(answer: &Result<(), RunError>) -> Ending
-        ensures { EndsAs answer.now result }
-    {
-        match answer {
-            Ok(()) => Ending::Usual(Usual::Done),
-            Err(RunError::Parts(e)) => Ending::of_parts(e),
-            Err(RunError::Body(BodyError::Io(e))) => {
-                Ending::Usual(Usual::of_fault_or(e, Usual::ReadFailed))
-            }
-            Err(RunError::Body(_)) => Ending::Truncated,
-            Err(RunError::Write(e)) => Ending::Usual(Usual::of_fault_or(e, Usual::WriteFailed)),
-            Err(RunError::Missing) => Ending::Missing,
-            Err(RunError::Many) => Ending::Usual(Usual::Failed),
-        }
-    }
+    ghost ends_with = { status_of };
 
-    fn of_parts(e: &PartError) -> Ending
-        ensures { PartEndsAs e.now result }
-    {
-        match e {
-            PartError::Truncated => Ending::Truncated,
-            PartError::Io(e) => Ending::Usual(Usual::of_fault_or(e, Usual::ReadFailed)),
-            PartError::Boundary => Ending::Boundary,
-            PartError::LongHead => Ending::LongHead,
-            PartError::ManyParts => Ending::ManyParts,
-            PartError::Memory => Ending::Usual(Usual::Memory),
-        }
-    }
-
-    /// The status that the process ends with.
-    pub fn status(&self) -> u8
-        ensures { result ≡ status_of self.now }
-    {
+    fn status(&self) -> u8 {
         match self {
-            Ending::Usual(ending) => ending.status(),
-            Ending::Boundary | Ending::LongHead | Ending::ManyParts => 4,
-            Ending::Truncated => 5,
-            Ending::Missing => 6,
+            InputFault::Boundary | InputFault::LongHead | InputFault::ManyParts => 4,
+            InputFault::Truncated => 5,
+            InputFault::Missing => 6,
         }
+    }
+
+    ghost own = { status_own };
+}
+
+impl fmt::Display for InputFault {
+    ghost use Rattle.std.specs.Prelude.{Some};
+    ghost use Rattle.parts.specs.Ending.{text_of};
+
+    ghost output = { λ fault. Some (text_of fault) };
+
+    fn fmt<W: fmt::Write>(&self, f: &mut fmt::Formatter<W>) -> fmt::Result {
+        f.write_str(match self {
+            InputFault::Boundary => "a boundary is not alone in its line, or in a head",
+            InputFault::LongHead => "the head of a part is too long",
+            InputFault::ManyParts => "there are too many parts",
+            InputFault::Truncated => "the input ends within the body",
+            InputFault::Missing => "no part has this name",
+        })
     }
 }
 
-/// The line for standard error; of a run that is done there is none.
-impl fmt::Display for Ending {
-    ghost use Rattle.std.specs.Prelude.{Some};
-    ghost use Rattle.parts.specs.Ending.{line_of};
+/// How a run ends that returned this.
+pub fn outcome_of(answer: &Result<(), RunError>) -> Outcome<InputFault>
+    ensures { EndsAs answer.now result }
+{
+    match answer {
+        Ok(()) => Outcome::Usual(Ending::Done),
+        Err(RunError::Parts(e)) => outcome_of_parts(e),
+        Err(RunError::Body(BodyError::Io(e))) => Outcome::of_fault(e, Ending::ReadFailed),
+        Err(RunError::Body(_)) => Outcome::Wrong(InputFault::Truncated),
+        Err(RunError::Write(e)) => Outcome::of_fault(e, Ending::WriteFailed),
+        Err(RunError::Missing) => Outcome::Wrong(InputFault::Missing),
+        Err(RunError::Many) => Outcome::Usual(Ending::Failed),
+    }
+}
 
-    ghost output = { λ ending. Some (line_of ending) };
-
-    fn fmt<W: fmt::Write>(&self, f: &mut fmt::Formatter<W>) -> fmt::Result {
-        match self {
-            Ending::Usual(ending) => {
-                let said = Report {
-                    program: "parts",
-                    usage: "list BOUNDARY|get BOUNDARY NAME",
-                    ending: *ending,
-                };
-                write!(f, "{said}")
-            }
-            Ending::Boundary => f.write_str(
-                "parts: a boundary is not alone in its line, or in a head",
-            ),
-            Ending::LongHead => f.write_str("parts: the head of a part is too long"),
-            Ending::ManyParts => f.write_str("parts: there are too many parts"),
-            Ending::Truncated => f.write_str("parts: the input ends within the body"),
-            Ending::Missing => f.write_str("parts: no part has this name"),
-        }
+fn outcome_of_parts(e: &PartError) -> Outcome<InputFault>
+    ensures { PartEndsAs e.now result }
+{
+    match e {
+        PartError::Truncated => Outcome::Wrong(InputFault::Truncated),
+        PartError::Io(e) => Outcome::of_fault(e, Ending::ReadFailed),
+        PartError::Boundary => Outcome::Wrong(InputFault::Boundary),
+        PartError::LongHead => Outcome::Wrong(InputFault::LongHead),
+        PartError::ManyParts => Outcome::Wrong(InputFault::ManyParts),
+        PartError::Memory => Outcome::Usual(Ending::Memory),
     }
 }

@@ -12,23 +12,23 @@ mod list;
 mod run;
 mod text;
 
-use crate::ending::Ending;
+use crate::ending::InputFault;
+use crate::run::{run_asked, said};
 use buffer_redux::tell::Told;
-use programs::Ending as Usual;
+use programs::Outcome;
 use std::process::ExitCode;
 
 // Does what the words that the program was given ask for.
-fn outcome(rt: &HostRuntime) -> Ending {
+fn asked(rt: &HostRuntime) -> Outcome<InputFault> {
     let words = match programs::args(rt) {
-        Ok(Some(words)) => words,
-        Ok(None) => return Ending::Usual(Usual::Usage),
-        Err(e) => return Ending::Usual(Usual::of_fault(&e)),
+        Ok(words) => words,
+        Err(ending) => return Outcome::Usual(ending),
     };
     let (reader, writer) = (Told::new(rt.stdin()), Told::new(rt.stdout()));
-    run::run_asked(rt.alloc(), words.as_slice(), reader, writer).0
+    run_asked(rt.alloc(), words.as_slice(), reader, writer).0
 }
 
 fn main(rt: HostRuntime) -> ExitCode {
-    let ending = outcome(&rt);
-    programs::end(&rt, ending.status(), ending)
+    let outcome = asked(&rt);
+    programs::end(&rt, outcome.status(), said(outcome))
 }

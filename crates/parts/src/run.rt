@@ -1,16 +1,16 @@
 //! A run as words ask for it, over any two streams that tell.
-ghost use Rattle.std.specs.Prelude.{◌≡◌, ◌↔◌, [], IfSome, IsTrue, None, map, string_bytes};
+ghost use Rattle.std.specs.Prelude.{◌≡◌, ◌↔◌, [], IfSome, IsTrue, None, codes, map, string_bytes};
 ghost use Rattle.std.specs.Option.{option_copied};
 ghost use Rattle.parts.specs.Asked.{Asks, DidSo, FlushedUnless, IsBoundary, NoneAsked, RunAnswers, RunDid, WasEnded};
 
-use crate::ending::Ending;
+use crate::ending::{InputFault, outcome_of};
 use crate::error::RunError;
 use crate::get::get;
 use crate::list::list;
 use buffer_redux::tell::{TellRead, TellWrite};
 use buffer_redux::{BufReader, BufWriter};
 use multipart::{Limits, Multipart, Stand};
-use programs::{Ending as Usual, buffered};
+use programs::{Ending, Outcome, Report, buffered};
 use std::alloc::Global;
 use std::io::Write;
 
@@ -30,23 +30,36 @@ pub fn run_asked<R: TellRead, W: TellWrite>(
     words: &[String],
     reader: R,
     writer: W,
-) -> (Ending, R, W)
+) -> (Outcome<InputFault>, R, W)
     ensures { RunDid R.remaining W.log W.trace (map string_bytes words.now) result.0 (R.log reader) (R.log result.1)
         (W.log writer) (W.log result.2) }
 {
     let Some((boundary, name)) = asked(words) else {
-        return (Ending::Usual(Usual::Usage), reader, writer);
+        return (Outcome::Usual(Ending::Usage), reader, writer);
     };
     let (source, target) = match buffered(alloc, false, (CAPACITY, CAPACITY), reader, writer) {
         Ok(buffers) => buffers,
-        Err((_, reader, writer)) => return (Ending::Usual(Usual::Memory), reader, writer),
+        Err((_, reader, writer)) => return (Outcome::Usual(Ending::Memory), reader, writer),
     };
     match Multipart::new(alloc, source, boundary, LIMITS) {
         Ok(parts) => run(parts, name, target),
         Err((source, _)) => {
             let (writer, _) = target.into_inner_with_buffer();
-            (Ending::Usual(Usual::Memory), source.into_inner(), writer)
+            (Outcome::Usual(Ending::Memory), source.into_inner(), writer)
         }
+    }
+}
+
+/// What the program says of an outcome.
+pub fn said(outcome: Outcome<InputFault>) -> Report<'static, InputFault>
+    ensures program { result.program.now ≡ codes "parts" }
+    ensures usage { result.usage.now ≡ codes "list BOUNDARY|get BOUNDARY NAME" }
+    ensures outcome { result.outcome ≡ outcome }
+{
+    Report {
+        program: "parts",
+        usage: "list BOUNDARY|get BOUNDARY NAME",
+        outcome,
     }
 }
 
@@ -79,7 +92,7 @@ fn run<R: TellRead, W: TellWrite>(
     parts: Multipart<R>,
     name: Option<&[u8]>,
     target: BufWriter<W>,
-) -> (Ending, R, W)
+) -> (Outcome<InputFault>, R, W)
     requires stands { parts.stand ≡ Stand.Preamble }
     requires none { parts.parts ≡ 0 }
     requires begins { parts.body.taken ≡ [] }
@@ -113,7 +126,7 @@ fn ended<R: TellRead, W: TellWrite>(
     answer: Result<(), RunError>,
     parts: Multipart<R>,
     target: BufWriter<W>,
-) -> (Ending, R, W)
+) -> (Outcome<InputFault>, R, W)
     ensures over { WasEnded W.log W.trace answer target result.0 (W.log result.2) }
     ensures read { R.log result.1 ≡ parts.body.reader.log }
 {
@@ -121,7 +134,7 @@ fn ended<R: TellRead, W: TellWrite>(
     let answer = flushed(answer, &mut target);
     let (writer, _) = target.into_inner_with_buffer();
     (
-        Ending::of(&answer),
+        outcome_of(&answer),
         parts.into_inner_torn().into_inner(),
         writer,
     )

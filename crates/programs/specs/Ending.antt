@@ -1,10 +1,12 @@
 -- What any program says of each ending.
-use Rattle.std.specs.Prelude.{◌≡◌, ◌≢◌, ℕ, List, [], ◌++◌, codes, Result, Ok, Err}
+use Rattle.std.specs.Prelude.{◌≡◌, ◌≢◌, ℕ, List, [], ◌++◌, codes, option_map, Option, Some, Result, Ok, Err}
 use Rattle.std.specs.IoError.{error_kind}
 use Rattle.std.specs.declared.io.Error.{Error}
 use Rattle.std.specs.declared.io.ErrorKind.TheVariants.{OutOfMemory}
 use Rattle.programs.specs.declared.ending.Ending.{Ending}
 use Rattle.programs.specs.declared.ending.Ending.TheVariants.{Done, Failed, ReadFailed, WriteFailed, Usage, Memory}
+use Rattle.programs.specs.declared.outcome.Outcome.{Outcome}
+use Rattle.programs.specs.declared.outcome.Outcome.TheVariants.{Usual, Wrong}
 
 -- how a run ends that failed with this error: so, or for want of memory
 pub record FailsSo (failed : Ending) (e : Error) (ending : Ending) : Type 0 where
@@ -25,11 +27,12 @@ status_of WriteFailed = 1
 status_of Usage = 2
 status_of Memory = 3
 
--- the line on standard error; of a run that is done none is printed
-abbrev pub line_of : List ℕ → List ℕ → Ending → List ℕ
-line_of program usage Done = []
-line_of program usage Failed = program ++ codes ": read or write failed"
-line_of program usage ReadFailed = program ++ codes ": read failed"
-line_of program usage WriteFailed = program ++ codes ": write failed"
-line_of program usage Usage = codes "usage: " ++ program ++ codes " " ++ usage
-line_of program usage Memory = program ++ codes ": out of memory"
+-- the line on standard error, by what faults print behind the program's name; of a run that is done none is printed
+abbrev pub line_of : {F : Type 0} → (F → Option (List ℕ)) → List ℕ → List ℕ → Outcome F → Option (List ℕ)
+line_of output program usage (Usual Done) = Some []
+line_of output program usage (Usual Failed) = Some (program ++ codes ": read or write failed")
+line_of output program usage (Usual ReadFailed) = Some (program ++ codes ": read failed")
+line_of output program usage (Usual WriteFailed) = Some (program ++ codes ": write failed")
+line_of output program usage (Usual Usage) = Some (codes "usage: " ++ program ++ codes " " ++ usage)
+line_of output program usage (Usual Memory) = Some (program ++ codes ": out of memory")
+line_of output program usage (Wrong fault) = option_map (λ text. program ++ codes ": " ++ text) (output fault)

@@ -1,4 +1,6 @@
 pub mod Ending
+pub mod Outcome
+pub mod OutcomeLaws
 pub mod Streams
 pub mod TakenIn
 pub mod TargetLaws

@@ -2,6 +2,7 @@
 ghost use Rattle.std.specs.Prelude.{◌≡◌};
 ghost use Rattle.std.specs.Process.{exit_status};
 
+use crate::outcome::Outcome;
 use std::io::ErrorKind;
 use std::process::ExitCode;
 use std::{fmt, io};
@@ -32,19 +33,12 @@ impl Ending {
     {
         match answer {
             Ok(_) => Ending::Done,
-            Err(e) => Ending::of_fault(e),
+            Err(e) => Ending::of_fault(e, Ending::Failed),
         }
     }
 
-    /// How a run ends that failed with this error.
-    pub fn of_fault(e: &io::Error) -> Ending
-        ensures { FailsSo Ending.Failed e.now result }
-    {
-        Ending::of_fault_or(e, Ending::Failed)
-    }
-
     /// How a run ends that failed with this error: so, or for want of memory.
-    pub fn of_fault_or(e: &io::Error, failed: Ending) -> Ending
+    pub(crate) fn of_fault(e: &io::Error, failed: Ending) -> Ending
         ensures { FailsSo failed e.now result }
     {
         if e.kind() == ErrorKind::OutOfMemory {
@@ -67,30 +61,30 @@ impl Ending {
     }
 }
 
-/// An ending in the words of a program of this name, behind which these words are expected.
+/// How a run ended, in the words of a program of this name, behind which these words are expected.
 #[derive(Clone, Copy, Debug)]
-pub struct Report<'a> {
+pub struct Report<'a, F> {
     pub program: &'a str,
     pub usage: &'a str,
-    pub ending: Ending,
+    pub outcome: Outcome<F>,
 }
 
 /// The line for standard error; of a run that is done there is none.
-impl fmt::Display for Report<'_> {
-    ghost use Rattle.std.specs.Prelude.{Some};
+impl<F: fmt::Display> fmt::Display for Report<'_, F> {
     ghost use Rattle.programs.specs.Ending.{line_of};
 
-    ghost output = { λ said. Some (line_of said.program.now said.usage.now said.ending) };
+    ghost output = { λ said. line_of F.output said.program.now said.usage.now said.outcome };
 
     fn fmt<W: fmt::Write>(&self, f: &mut fmt::Formatter<W>) -> fmt::Result {
         let (program, usage) = (self.program, self.usage);
-        match self.ending {
-            Ending::Done => Ok(()),
-            Ending::Failed => write!(f, "{program}: read or write failed"),
-            Ending::ReadFailed => write!(f, "{program}: read failed"),
-            Ending::WriteFailed => write!(f, "{program}: write failed"),
-            Ending::Usage => write!(f, "usage: {program} {usage}"),
-            Ending::Memory => write!(f, "{program}: out of memory"),
+        match &self.outcome {
+            Outcome::Usual(Ending::Done) => Ok(()),
+            Outcome::Usual(Ending::Failed) => write!(f, "{program}: read or write failed"),
+            Outcome::Usual(Ending::ReadFailed) => write!(f, "{program}: read failed"),
+            Outcome::Usual(Ending::WriteFailed) => write!(f, "{program}: write failed"),
+            Outcome::Usual(Ending::Usage) => write!(f, "usage: {program} {usage}"),
+            Outcome::Usual(Ending::Memory) => write!(f, "{program}: out of memory"),
+            Outcome::Wrong(fault) => write!(f, "{program}: {fault}"),
         }
     }
 }

@@ -5,8 +5,12 @@
 
 mod buffers;
 mod ending;
+mod error;
+mod outcome;
 mod words;
 
 pub use buffers::{GREATEST_CAPACITY, buffered, buffered_writer, put_all};
 pub use ending::{Ending, Report, end};
+pub use error::RunError;
+pub use outcome::{Fault, Outcome};
 pub use words::{args, number, only_word};

@@ -3,15 +3,17 @@ ghost use Rattle.std.specs.Prelude.{◌≡◌, ◌∷◌, [], length, map, strin
 ghost use Rattle.std.specs.Str.Parse.{digits_value};
 ghost use Rattle.programs.specs.Words.{IsNumber};
 
+use crate::ending::Ending;
 use std::io;
 use std::io::ErrorKind;
 
-/// The words after the program's name; `None` where one isn't UTF-8, which no program knows.
-pub fn args(rt: &HostRuntime) -> io::Result<Option<Vec<String>>> {
+/// The words after the program's name, or how the run ends without them: by `Usage` where one isn't UTF-8, which no program
+/// knows.
+pub fn args(rt: &HostRuntime) -> Result<Vec<String>, Ending> {
     match all_args(rt) {
-        Ok(words) => Ok(Some(words)),
-        Err(e) if e.kind() == ErrorKind::InvalidData => Ok(None),
-        Err(e) => Err(e),
+        Ok(words) => Ok(words),
+        Err(e) if e.kind() == ErrorKind::InvalidData => Err(Ending::Usage),
+        Err(e) => Err(Ending::of_fault(&e, Ending::Failed)),
     }
 }
 

@@ -61,9 +61,10 @@ use std::io;
 use std::process::ExitCode;
 
 fn run(rt: &HostRuntime) -> io::Result<Ending> {
-    match programs::args(rt)? {
-        Some(words) if words.is_empty() => {}
-        _ => return Ok(Ending::Usage),
+    match programs::args(rt) {
+        Ok(words) if words.is_empty() => {}
+        Ok(_) | Err(programs::Ending::Usage) => return Ok(Ending::Usage),
+        Err(_) => return Err(io::ErrorKind::OutOfMemory.into()),
     }
     let input = BufReader::new(rt.alloc(), Told::new(rt.stdin()))?;
     let mut output = BufWriter::new(rt.alloc(), Told::new(rt.stdout()))?;

@@ -3,14 +3,12 @@ use Rattle.std.proofs.Common.{◌≡◌, ◌∙◌, ap, arith, subst, sym}
 use Rattle.body_reader.specs.BodyReaderLaws.{begun-is}
 use Rattle.chunked.specs.Coding.{chunked}
 use Rattle.chunked.specs.CodingLaws.{chunked_lawful}
-use Rattle.forward.specs.Forward.{ForwardAnswers}
 use Rattle.forward.specs.ForwardLaws.{Forwards-moves, Forwards-runs}
-use Rattle.forward.specs.Target.{failure_count}
+use Rattle.programs.specs.OutcomeLaws.{Returns-count, Returns-says}
 use Rattle.bodies.specs.Decode.{DecodeRan}
 use Rattle.bodies.specs.Decoding.{decoding_rules}
 use Rattle.bodies.specs.DecodingLaws.{counts_asks, std_leaves}
 use Rattle.bodies.proofs.DecodeRuns.{ended, start, stopped}
-use Rattle.bodies.proofs.decode.decode_all.Goals.{in-Ok, in-Err}
 use Rattle.bodies.proofs.decode.decode_all.Goals as goal
 
 pub forward-answer-requires-clause-ready : goal.forward-answer-requires-clause-ready
@@ -33,24 +31,16 @@ returns g c =
     let first = start a.limits a.source a.target a.piece in
     let t = c.forward-answer.new.link.filter in
     let over = rw (c.new-link.ensures, c.new.ensures.begun) at c.forward-answer.ensures.forwards in
-    let failed : failure_count c.forward-answer.result ≡ failure_count c.match-answer.answer = elim c.match-answer.branch [
-      | in-Ok w ↦ ap (λ x. failure_count x) w.in-Ok.is ∙ sym (ap (λ x. failure_count x) w.answer-is)
-      | in-Err w ↦ ap (λ x. failure_count x) w.in-Err.is ∙ sym (ap (λ x. failure_count x) w.answer-is)
-    ] in
     let moves = Forwards-moves rules _ c.forward-answer.new.link c.forward-answer.result over in
     rw (c.into_inner_torn.ensures, c.into_inner-body.ensures) (record {
       read_room = (moves.2.hands.went.keeps.room std_leaves).0;
       write_room = moves.2.takes.room;
       decodes = record {
-        ran = elim c.match-answer.branch [
-          | in-Ok w ↦ subst (DecodeRan a.limits a.source.log t.source.reader.log a.target.log t.target.log) (sym w.answer-is)
-              (ended remaining a.limits a.source a.target a.piece c.requires.source.bytes c.requires.empty t over.ready _
-              (subst (λ x. ForwardAnswers rules first x t) w.in-Ok.is over.answers))
-          | in-Err w ↦ subst (DecodeRan a.limits a.source.log t.source.reader.log a.target.log t.target.log) (sym w.answer-is)
-              (stopped remaining a.limits a.source a.target a.piece c.requires.source.bytes c.requires.empty t over.ready _ _ _
-              (subst (λ x. ForwardAnswers rules first x t) w.in-Err.is over.answers) w.error_of.ensures)
-        ];
-        promptly = rw failed
+        ran = Returns-says rules first t (DecodeRan a.limits a.source.log t.source.reader.log a.target.log t.target.log)
+            (ended remaining a.limits a.source a.target a.piece c.requires.source.bytes c.requires.empty t over.ready)
+            (stopped remaining a.limits a.source a.target a.piece c.requires.source.bytes c.requires.empty t over.ready)
+            c.forward-answer.result c.outcome.result c.outcome.ensures over.answers;
+        promptly = rw (Returns-count c.forward-answer.result c.outcome.result c.outcome.ensures)
             at (Forwards-runs rules _ c.forward-answer.new.link c.forward-answer.result (counts_asks remaining) over);
       };
     })

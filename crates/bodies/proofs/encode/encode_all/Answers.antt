@@ -48,7 +48,7 @@ returns-in-Err g c =
       write_room = moves.takes.went.capacity;
       encodes = record {
         ran = stopped g.R.TellRead.remaining g.W.TellWrite.trace c.args.source c.args.target c.requires.empty
-            c.requires.target.bytes t.filter _ _ _ over.answers c.error_of.ensures;
+            c.requires.target.bytes t.filter _ _ _ over.answers c.of.ensures;
         offers = Goes-offers g.R.TellRead.remaining g.W.TellWrite.trace _ t over.goes;
         promptly = record {
           prompt = Goes-holds rules _ t over.goes;

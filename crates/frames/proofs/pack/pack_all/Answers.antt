@@ -3,7 +3,7 @@ use Rattle.std.proofs.Common.{[], None, refl, subst, ◌∙◌}
 use Rattle.forward.specs.Forward.{Forwards}
 use Rattle.piece_filter.specs.PieceRuns.{rooms_kept, runs_unread}
 use Rattle.piece_filter.specs.Pieces.{piece_rules}
-use Rattle.frames.proofs.PieceRuns.{outcome_count}
+use Rattle.programs.specs.OutcomeLaws.{Returns-count}
 use Rattle.frames.specs.Packing.{packing}
 use Rattle.frames.specs.declared.packing.Packing.{Packing}
 use Rattle.frames.proofs.Packs.{packed}
@@ -25,7 +25,7 @@ returns g c =
       packs = record {
         ran = packed remaining first t.filter (c.requires.empty, refl) c.requires.nothing c.requires.going
             (rooms.0 ∙ c.requires.read) over.ready answer c.outcome.result c.outcome.ensures over.answers;
-        promptly = rw (outcome_count answer c.outcome.result c.outcome.ensures)
+        promptly = rw (Returns-count answer c.outcome.result c.outcome.ensures)
             at (runs_unread remaining packing (record { filter = first; states = [] }) t answer c.requires.nothing over);
       };
     })

@@ -3,7 +3,7 @@ use Rattle.std.proofs.Common.{[], None, refl, subst, ◌∙◌}
 use Rattle.forward.specs.Forward.{Forwards}
 use Rattle.piece_filter.specs.PieceRuns.{rooms_kept, runs_unread}
 use Rattle.piece_filter.specs.Pieces.{piece_rules}
-use Rattle.frames.proofs.PieceRuns.{outcome_count}
+use Rattle.programs.specs.OutcomeLaws.{Returns-count}
 use Rattle.frames.specs.Unpacking.{unpacking}
 use Rattle.frames.specs.declared.unpacking.Unpacking.{Unpacking}
 use Rattle.frames.proofs.Unpacks.{unpacked_all}
@@ -25,7 +25,7 @@ returns g c =
       unpacks = record {
         ran = unpacked_all remaining first t.filter (c.requires.empty, refl) c.requires.nothing c.requires.reads.told
             (rooms.0 ∙ c.requires.read) over.ready answer c.outcome.result c.outcome.ensures over.answers;
-        promptly = rw (outcome_count answer c.outcome.result c.outcome.ensures)
+        promptly = rw (Returns-count answer c.outcome.result c.outcome.ensures)
             at (runs_unread remaining unpacking (record { filter = first; states = [] }) t answer c.requires.nothing over);
       };
     })

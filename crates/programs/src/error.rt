@@ -3,13 +3,11 @@ use forward::{Cause, Stopped};
 use std::io;
 use std::io::ErrorKind;
 
-/// Why a run failed.
+/// Why a run failed that forwards payloads from one stream to another.
 #[derive(Debug, Drop)]
-pub enum RunError {
-    /// A line, or the payload of a frame, is longer than it may be.
-    TooLong,
-    /// The input ended within a frame.
-    Truncated,
+pub enum RunError<F> {
+    /// This is wrong with its input.
+    Wrong(F),
     /// A read failed.
     Read(io::Error),
     /// A write or a flush failed.
@@ -18,13 +16,14 @@ pub enum RunError {
     Io(io::Error),
 }
 
-impl RunError {
-    ghost use Rattle.std.specs.Prelude.{IsErrAnd, IsOk, MatchResult};
-    ghost use Rattle.frames.specs.Ending.{IsErrorOf};
+impl<F> RunError<F> {
+    ghost use Rattle.programs.specs.Outcome.{IsErrorOf, Returns};
 
     /// What a run returns whose payloads went over so.
-    pub fn outcome(answer: Result<u64, Stopped<RunError>>) -> Result<(), RunError>
-        ensures { MatchResult answer (λ _. IsOk result) (λ stopped. IsErrAnd result (IsErrorOf stopped.cause)) }
+    // Both are compiled into each run: beside a call the compiler clears what a filter answers, at each ask.
+    #[inline(always)]
+    pub fn outcome(answer: Result<u64, Stopped<F>>) -> Result<(), RunError<F>>
+        ensures { Returns answer result }
     {
         match answer {
             Ok(_) => Ok(()),
@@ -33,11 +32,12 @@ impl RunError {
     }
 
     /// Why a run failed whose payloads were stopped so.
-    pub fn of(cause: Cause<RunError>) -> RunError
+    #[inline(always)]
+    pub fn of(cause: Cause<F>) -> RunError<F>
         ensures { IsErrorOf cause result }
     {
         match cause {
-            Cause::Wrong(e) => e,
+            Cause::Wrong(fault) => RunError::Wrong(fault),
             Cause::Read(e) => RunError::Read(e),
             Cause::Write(e) => RunError::Write(e),
             Cause::Count => RunError::Io(ErrorKind::Other.into()),
