@@ -1,5 +1,5 @@
 -- What contracts see of a client, and how it was served.
-use Rattle.std.specs.Prelude.{◌≡◌, ◌<◌}
+use Rattle.std.specs.Prelude.{◌≡◌, ◌<◌, Bool, true, false}
 use Rattle.buffer_redux.specs.Buffered.{Buffered}
 use Rattle.codec.specs.PieceReader.{ReaderState}
 use Rattle.codec.specs.Serving.{Server, server}
@@ -14,16 +14,20 @@ use Rattle.resp.specs.declared.client.Ending.TheVariants.{Closed, End, Within, M
 use Rattle.resp.specs.declared.session.Session.{Session}
 use Rattle.resp.specs.declared.store.Store.{Store}
 
--- the reader of its pieces, and what came of the request that has begun
+-- the reader of its pieces, what came of the request that has begun, and whether it is served no further
 abbrev pub pieces_of : {S : Type 0} → Client S → ReaderState S Resp
 pieces_of client = client.requests
 
 abbrev pub begun_of : {S : Type 0} → Client S → Waiting
 begun_of client = client.request
 
+abbrev pub closed_of : {S : Type 0} → Client S → Bool
+closed_of client = client.closed
+
 -- a client, a store, and the writer of replies, as what a server does is said of them
 abbrev pub serving : {S T P : Type 0} → Client S → Store → Buffered T P → Server S Resp Session T P
-serving client store replies = server client.requests (session_of client.alloc client.request store) replies
+serving client store replies =
+    server client.requests (session_of client.alloc client.request store client.closed) replies
 
 -- how serving its pieces ended
 abbrev pub ends_as : Ending → Served
@@ -31,6 +35,11 @@ ends_as Closed = served.Closed
 ends_as End = served.End
 ends_as Within = served.End
 ends_as Many = served.Many
+
+-- this is told of one that is closed
+abbrev pub tells_closed : Ending → Bool
+tells_closed Closed = true
+tells_closed ending = false
 
 -- a stream's end is told as one within a request just where parts of one are to come
 abbrev pub IsWithin : Waiting → Ending → Type 0

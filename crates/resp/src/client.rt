@@ -1,12 +1,18 @@
 //! A client, and the store that outlives it.
-ghost use Rattle.std.specs.Prelude.{◌≡◌, [], IfErr, IfOk, OnOk};
+ghost use Rattle.std.specs.Prelude.{◌≡◌, [], IfErr, IfOk, IsTrue, MatchBool, Ok, Err, OnOk, false};
 ghost use Rattle.codec.specs.Answering.{NeverFails};
 ghost use Rattle.codec.specs.PieceReader.{IsFresh};
+ghost use Rattle.std.specs.declared.io.Error.{Error};
+ghost use Rattle.buffer_redux.specs.BufWriter.{WasFlushed};
+ghost use Rattle.codec.specs.declared.serving.ServeError.TheVariants.{Flush};
+ghost use Rattle.codec.specs.declared.serving.Served.TheVariants as served;
+ghost use Rattle.codec.specs.Serving.{server};
 ghost use Rattle.codec.specs.ServingAll.{ServesAll, StopsAll};
 ghost use Rattle.decoders.specs.Resp.{resp, resp_item};
-ghost use Rattle.resp.specs.Clients.{IsWithin, begun_of, ends_as, pieces_of, serving};
-ghost use Rattle.resp.specs.Sessions.{RepliesBy};
+ghost use Rattle.resp.specs.Clients.{IsWithin, begun_of, closed_of, ends_as, pieces_of, serving, tells_closed};
+ghost use Rattle.resp.specs.Sessions.{RepliesBy, session_of};
 ghost use Rattle.resp.specs.Waiting.{nothing};
+ghost use Rattle.resp.specs.declared.client.Ending.TheVariants as ending;
 
 use crate::request::Request;
 use crate::session::Session;
@@ -19,12 +25,13 @@ use codec::{
 use decoders::Resp;
 use std::alloc::Global;
 use std::convert::Infallible;
+use std::io::Write;
 use std::mem;
 
 /// The most bytes of a bulk string, and of a line, with its first byte and its carriage return.
 pub const MAX_PART: usize = 65536;
 
-/// A client: the stream of its requests, and what came of the one that has begun. It owns the stream, so that no request begins
+/// A client: the stream of its requests, what came of the one that has begun, and whether it is closed. It owns the stream, so that no request begins
 /// in one stream and goes on in another. The store outlives it, and may serve other clients meanwhile.
 ///
 /// ```
@@ -40,12 +47,13 @@ pub struct Client<R: Tell> {
     alloc: Global,
     requests: PieceReader<R, Resp>,
     request: Request,
+    closed: bool,
 }
 
 /// Why a client is served no further.
 #[derive(Clone, Copy, PartialEq, Eq, Debug, Drop)]
 pub enum Ending {
-    /// It asked for no more, or sent what belongs to no request.
+    /// It asked for no more, or sent what belongs to no request. No call takes anything behind that.
     Closed,
     /// Its stream ended behind a whole request.
     End,
@@ -61,6 +69,7 @@ impl<R: Tell> Client<R> {
         ensures fresh { IfOk result (λ c. IsFresh R.log 8192 (resp MAX_PART).most stream (pieces_of c).decoder (pieces_of c)) }
         ensures takes { IfOk result (λ c. (pieces_of c).decoder.max ≡ MAX_PART) }
         ensures none { IfOk result (λ c. begun_of c ≡ nothing) }
+        ensures open { IfOk result (λ c. closed_of c ≡ false) }
         ensures handed_back { IfErr result (λ e. e.0 ≡ stream) }
         ensures refused { IfErr result (λ e. e.1 ≡ GrowError.Memory) }
     {
@@ -69,6 +78,7 @@ impl<R: Tell> Client<R> {
                 alloc,
                 requests,
                 request: Request::new(alloc),
+                closed: false,
             }),
             Err(MakeError(back, e)) => Err(MakeError(back.0, e)),
         }
@@ -78,26 +88,60 @@ impl<R: Tell> Client<R> {
 impl<R: TellRead> Client<R> {
     /// Answers the client's requests, one after another, by `store`, as [`serve_all`] does. Behind an `Err` of `Read` this may be
     /// called again, and goes on within the request that has begun; a stream that ends within a bulk string, or a line, is
-    /// `Wrong`.
+    /// `Wrong`. Once the client is closed this only flushes, and answers `Closed`.
     pub fn serve<W: TellWrite>(
         &mut self,
         store: &mut Store,
         replies: &mut BufWriter<W>,
     ) -> Result<Ending, ServeError<EitherWrong<HeaderError, Unended<TooLong>>, Infallible>>
         ensures flushed { OnOk result (replies.new.block.bytes ≡ []) }
-        ensures served { IfOk result (λ ending. ServesAll R.remaining W.log W.trace (resp (pieces_of self.old).decoder.max)
-            resp_item RepliesBy NeverFails (serving self.old store.old replies.old) (ends_as ending)
-            (serving self.new store.new replies.new)) }
+        ensures stays_closed { IsTrue (closed_of self.old) → (self.new ≡ self.old) × (store.new ≡ store.old)
+            × IfOk result (λ answer. answer ≡ ending.Closed) }
+        ensures closes { IfOk result (λ answer. closed_of self.new ≡ tells_closed answer) }
         ensures within { IfOk result (λ ending. IsWithin (begun_of self.new) ending) }
+        ensures served { IfOk result (λ ending. MatchBool (closed_of self.old)
+            (WasFlushed W.log W.trace replies.old (Ok tt) replies.new)
+            (ServesAll R.remaining W.log W.trace (resp (pieces_of self.old).decoder.max) resp_item RepliesBy NeverFails
+            (serving self.old store.old replies.old) (ends_as ending) (serving self.new store.new replies.new))) }
+        ensures failed { IfErr result (λ e. MatchBool (closed_of self.old)
+            ((why : Error) × (e ≡ Flush served.Closed why) × WasFlushed W.log W.trace replies.old (Err why) replies.new)
+            (StopsAll R.remaining W.log W.trace (resp (pieces_of self.old).decoder.max) resp_item RepliesBy NeverFails
+            (serving self.old store.old replies.old) e (serving self.new store.new replies.new))) }
+    {
+        if self.closed {
+            return match replies.flush() {
+                Ok(()) => Ok(Ending::Closed),
+                Err(e) => Err(ServeError::Flush(Served::Closed, e)),
+            };
+        }
+        self.serve_open(store, replies)
+    }
+
+    // Serves a client that isn't closed.
+    fn serve_open<W: TellWrite>(
+        &mut self,
+        store: &mut Store,
+        replies: &mut BufWriter<W>,
+    ) -> Result<Ending, ServeError<EitherWrong<HeaderError, Unended<TooLong>>, Infallible>>
+        ensures flushed { OnOk result (replies.new.block.bytes ≡ []) }
+        ensures closes { IfOk result (λ answer. closed_of self.new ≡ tells_closed answer) }
+        ensures within { IfOk result (λ ending. IsWithin (begun_of self.new) ending) }
+        ensures served { IfOk result (λ ending. ServesAll R.remaining W.log W.trace (resp (pieces_of self.old).decoder.max)
+            resp_item RepliesBy NeverFails
+            (server (pieces_of self.old) (session_of self.old.alloc self.old.request store.old false) replies.old)
+            (ends_as ending) (serving self.new store.new replies.new)) }
         ensures failed { IfErr result (λ e. StopsAll R.remaining W.log W.trace (resp (pieces_of self.old).decoder.max) resp_item
-            RepliesBy NeverFails (serving self.old store.old replies.old) e (serving self.new store.new replies.new)) }
+            RepliesBy NeverFails
+            (server (pieces_of self.old) (session_of self.old.alloc self.old.request store.old false) replies.old) e
+            (serving self.new store.new replies.new)) }
     {
         let request = mem::replace(&mut self.request, Request::new(self.alloc));
         let values = mem::replace(store, Store::new(self.alloc, 0));
         let mut session = Session::new(self.alloc, request, values);
         let answer = serve_all(&mut session, &mut self.requests, replies);
-        let (request, values) = session.into_parts();
+        let (request, values, closed) = session.into_parts();
         self.request = request;
+        self.closed = closed;
         *store = values;
         match answer {
             Ok(served) => Ok(ending_of(served, &self.request)),

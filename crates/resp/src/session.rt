@@ -1,7 +1,7 @@
 //! What answers the pieces of one client: what came of its request, and the store.
-ghost use Rattle.std.specs.Prelude.{◌≡◌};
+ghost use Rattle.std.specs.Prelude.{◌≡◌, false};
 ghost use Rattle.codec.specs.Answering.{WasAnswered};
-ghost use Rattle.resp.specs.Sessions.{RepliesWhole, refusal_reply, session, session_of};
+ghost use Rattle.resp.specs.Sessions.{RepliesWhole, closes_by, refusal_reply, session, session_of};
 ghost use Rattle.resp.specs.Stored.{held};
 
 use crate::command::{act, command_of, goes_on};
@@ -23,31 +23,35 @@ pub struct Session {
     alloc: Global,
     request: Request,
     store: Store,
+    closed: bool,
 }
 
 impl Session {
-    /// What came of a request, and the store.
+    /// What came of a request, and the store, before a piece is answered.
     pub fn new(alloc: Global, request: Request, store: Store) -> Session
-        ensures { result ≡ session_of alloc request store }
+        ensures { result ≡ session_of alloc request store false }
     {
         Session {
             alloc,
             request,
             store,
+            closed: false,
         }
     }
 
-    /// Both as they are now.
-    pub fn into_parts(self) -> (Request, Store)
+    /// Both as they are now, and whether no further piece is to be taken.
+    pub fn into_parts(self) -> (Request, Store, bool)
         ensures request { result.0 ≡ self.request }
         ensures store { result.1 ≡ self.store }
+        ensures closed { result.2 ≡ self.closed }
     {
         let Session {
             alloc: _,
             request,
             store,
+            closed,
         } = self;
-        (request, store)
+        (request, store, closed)
     }
 }
 
@@ -70,9 +74,16 @@ impl Service<Resp> for Session {
     ) -> Result<bool, AnswerError<Infallible>> {
         match self.request.take(self.alloc, item, payload) {
             Fed::More => Ok(true),
-            Fed::Whole => answer_whole(self.alloc, &mut self.request, &mut self.store, writer),
+            Fed::Whole => answer_whole(
+                self.alloc,
+                &mut self.request,
+                &mut self.store,
+                &mut self.closed,
+                writer,
+            ),
             Fed::Bad(refusal) => {
                 self.request.clear();
+                self.closed = true;
                 write_answer(writer, &[refusal_text(refusal)], false)
             }
         }
@@ -84,10 +95,12 @@ fn answer_whole<W: TellWrite>(
     alloc: Global,
     request: &mut Request,
     store: &mut Store,
+    closed: &mut bool,
     writer: &mut BufWriter<W>,
 ) -> Result<bool, AnswerError<Infallible>>
-    ensures { WasAnswered W.log W.trace (λ reply more t. RepliesWhole request.old (held store.old) reply more t.waiting t.values)
-        (λ _ _. ⊥) writer.old result (session request.new (held store.new)) writer.new }
+    ensures { WasAnswered W.log W.trace (λ reply more t. RepliesWhole request.old (held store.old) reply more t.waiting t.values
+        × (t.closed ≡ closes_by more closed.old)) (λ _ _. ⊥) writer.old result (session request.new (held store.new) closed.new)
+        writer.new }
 {
     if request.is_lost() {
         request.clear();
@@ -97,10 +110,18 @@ fn answer_whole<W: TellWrite>(
     let done = act(alloc, command, store, writer);
     let more = goes_on(command);
     request.clear();
+    *closed = closes(more, *closed);
     match done {
         Ok(()) => Ok(more),
         Err(e) => Err(AnswerError::Write(e)),
     }
+}
+
+// Whether no further piece is taken behind an answer.
+fn closes(more: bool, closed: bool) -> bool
+    ensures { result ≡ closes_by more closed }
+{
+    !more || closed
 }
 
 fn refusal_text(refusal: Refusal) -> &'static [u8]

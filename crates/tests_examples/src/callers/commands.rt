@@ -46,15 +46,15 @@ static REQUESTS: [(&'static [u8], usize, &'static [u8], Ending); 5] = [
     ),
     (
         b"*3\r\n$3\r\nDEL\r\n$1\r\na\r\n$1\r\nb\r\nQUIT\r\nPING\r\n",
-        1,
+        2,
         b":1\r\n+OK\r\n",
         Ending::Closed,
     ),
-    // Behind a refusal the next request begins anew.
+    // Behind a refusal no request begins.
     (
-        b"*2\r\n$3\r\nGET\r\n:5\r\n$1\r\na\r\n",
+        b"*2\r\n$3\r\nGET\r\n:5\r\nPING\r\n",
         2,
-        b"-ERR Protocol error: expected '$'\r\n-ERR Protocol error: expected '*'\r\n",
+        b"-ERR Protocol error: expected '$'\r\n",
         Ending::Closed,
     ),
 ];

@@ -1,12 +1,8 @@
--- The session is made of the client's request and the store, and is taken apart into these again.
+-- A client that isn't closed is served.
 use Rattle.resp.proofs.client.Client.serve.Goals as goal
 
-pub returns-in-Ok-clause-served : goal.returns-in-Ok-clause-served
-returns-in-Ok-clause-served g c =
-    rw (c.ending_of.ensures.served, c.into_parts-request.ensures.request, c.into_parts-request.ensures.store)
-    (rw (c.new-session.ensures, c.replace-request.ensures.value, c.replace-values.ensures.value) at c.in-Ok.ensures.served)
+pub returns-clause-served : goal.returns-clause-served
+returns-clause-served g c = rw (c.if-self.false) c.serve_open.ensures.served
 
-pub returns-in-Err-clause-failed : goal.returns-in-Err-clause-failed
-returns-in-Err-clause-failed g c =
-    rw (c.into_parts-request.ensures.request, c.into_parts-request.ensures.store)
-    (rw (c.new-session.ensures, c.replace-request.ensures.value, c.replace-values.ensures.value) at c.in-Err.ensures.failed)
+pub returns-clause-failed : goal.returns-clause-failed
+returns-clause-failed g c = rw (c.if-self.false) c.serve_open.ensures.failed

@@ -10,7 +10,7 @@ use Rattle.resp.proofs.session.SessionServiceResp.answer.Goals as goal
 pub returns-in-More : goal.returns-in-More
 returns-in-More g c =
     let values = held c.args.self.now.store in
-    ([], (More, c.take.new.self, c.in-More.ensures, (refl, refl, refl, Same-refl values)), inr (refl, refl))
+    ([], (More, c.take.new.self, c.in-More.ensures, (refl, refl, refl, Same-refl values), refl), inr (refl, refl))
 
 pub returns-in-Bad : goal.returns-in-Bad
 returns-in-Bad g c =
@@ -21,5 +21,6 @@ returns-in-Bad g c =
       c.take.new.self,
       c.in-Bad.ensures,
       (append-nil _ ∙ c.refusal_text.ensures, refl, c.clear.ensures, Same-refl values),
+      refl,
     )
     c.write_answer.result c.write_answer.ensures.answers
