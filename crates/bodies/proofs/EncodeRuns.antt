@@ -163,7 +163,8 @@ module _ {R W : Type 0} (remaining : R → Option (List ℕ)) (trace : W → W �
   abbrev Ran : RunError InputFault → Type 0
   Ran e = EncodeRan first.log t.source.log u.log t.target.writer.log (Err e)
 
-  pub stopped : (count : ℕ) (why : Cause InputFault) (e : RunError InputFault) → StopsBy rules count begin why t → IsErrorOf why e → Ran e
+  pub stopped : (count : ℕ) (why : Cause InputFault) (e : RunError InputFault) → StopsBy rules count begin why t
+      → IsErrorOf why e → Ran e
   stopped count (cause.Wrong why) e (over, wrong, sent, met) is = absurd wrong
   stopped count (cause.Read fault) e (over, left, sent, again, failed) is = subst Ran (sym is) (
     moved_all count over [] t.target.writer still sent,

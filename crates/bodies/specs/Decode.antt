@@ -59,7 +59,7 @@ DecodeRan limits read read' written written' (Err (Io e)) =
     × (OverCount e (length (m.sent ++ m.unsent)) read read' written written' ⊎ RefusedBeforeCalls e read read' written written')
 
 -- all that a run of `decode` promises: the writer was flushed once for each ask of the reader at most, and twice more
-pub record DecodesBody (limits : Limits) (read read' written written' : StreamLog) (answer : Result (Unit {0}) (RunError InputFault))
-    : Type 0 where
+pub record DecodesBody (limits : Limits) (read read' written written' : StreamLog)
+    (answer : Result (Unit {0}) (RunError InputFault)) : Type 0 where
   pub ran : DecodeRan limits read read' written written' answer
   pub promptly : RunsPromptly (IsDue limits) (failure_count answer) 2 read read' written written'

@@ -12,7 +12,8 @@ abbrev pub IsDue : List ℕ → List ℕ → Type 0
 IsDue bytes due = IsChunks due bytes
 
 -- what an answer says of ending a body, behind whose chunks these bytes were taken in: at Ok its end, which was sent and flushed
-abbrev pub EndAnswers : {W : Type 0} → Buffered W StdPolicy → List ℕ → Result (Unit {0}) (RunError InputFault) → Buffered W StdPolicy → Type 0
+abbrev pub EndAnswers : {W : Type 0} → Buffered W StdPolicy → List ℕ → Result (Unit {0}) (RunError InputFault)
+    → Buffered W StdPolicy → Type 0
 EndAnswers u end answer v = MatchResult answer
     (λ _. (end ≡ body_end []) × AllSent v × MetInterrupts u.log.writes v.log.writes)
     (λ why. ((end ≡ body_end []) ⊎ (end ≡ []))
@@ -20,8 +21,8 @@ EndAnswers u end answer v = MatchResult answer
     × (IsInterrupt e → FaultsOften u.log.writes v.log.writes ⊎ ((v.block.bytes ≡ []) × (end ≡ body_end [])))))
 
 -- what ending a body does
-pub record EndsBody {W : Type 0} (u : Buffered W StdPolicy) (answer : Result (Unit {0}) (RunError InputFault)) (v : Buffered W StdPolicy)
-    : Type 0 where
+pub record EndsBody {W : Type 0} (u : Buffered W StdPolicy) (answer : Result (Unit {0}) (RunError InputFault))
+    (v : Buffered W StdPolicy) : Type 0 where
   pub end : List ℕ
   pub taken : WritesInOrder u end v
   pub answers : EndAnswers u end answer v

@@ -100,8 +100,8 @@ module _ {T : Type 0} (tells : T → StreamLog) (trace : T → T → Type 0) whe
   FlushedUnless answer u last v = FlushedBehind answer u last v
 
   -- how a run with this answer was ended: it said so, and the writer was left so
-  pub record WasEnded (answer : Result (Unit {0}) RunError) (v : Buffered T StdPolicy) (ending : Outcome InputFault) (written' : StreamLog)
-      : Type 0 where
+  pub record WasEnded (answer : Result (Unit {0}) RunError) (v : Buffered T StdPolicy) (ending : Outcome InputFault)
+      (written' : StreamLog) : Type 0 where
     pub last : Result (Unit {0}) RunError
     pub w : Buffered T StdPolicy
     pub flushed : FlushedUnless answer v last w
@@ -139,8 +139,8 @@ module _ {S T : Type 0} (remaining : S → Option (List ℕ)) (tells : T → Str
     pub sent : OnOk over.last (RunSent name s.body.coding s.other s.body.reader.log read' u.log written')
 
   -- the same of a body with this boundary from the streams on, through plain buffers of 16384 bytes, which are empty at first
-  pub record RanSo (name : Option (List ℕ)) (boundary : List ℕ) (ending : Outcome InputFault) (read read' written written' : StreamLog)
-      : Type 0 where
+  pub record RanSo (name : Option (List ℕ)) (boundary : List ℕ) (ending : Outcome InputFault)
+      (read read' written written' : StreamLog) : Type 0 where
     pub s : FormState S StdPolicy
     pub u : Buffered T StdPolicy
     pub begun : IsBegun s.body.reader boundary run_limits s

@@ -78,7 +78,8 @@ pub looks_on : {S D W : Type 0} (looks : D → LookTells W) (s m t : ReaderState
     → looks s.decoder (rest s) s.seen (More need) → m ≡ record s { seen = length (rest s) } → LooksForMore looks m need t
     → LooksFromLast looks s t
 looks_on looks s m t need look same on =
-    let on' : LooksForMore looks (record s { seen = length (rest s) }) need t = subst (λ x. LooksForMore looks x need t) same on in (
+    let on' : LooksForMore looks (record s { seen = length (rest s) }) need t =
+    subst (λ x. LooksForMore looks x need t) same on in (
       More need,
       look,
       record {

@@ -31,8 +31,8 @@ use std::mem;
 /// The most bytes of a bulk string, and of a line, with its first byte and its carriage return.
 pub const MAX_PART: usize = 65536;
 
-/// A client: the stream of its requests, what came of the one that has begun, and whether it is closed. It owns the stream, so that no request begins
-/// in one stream and goes on in another. The store outlives it, and may serve other clients meanwhile.
+/// A client: the stream of its requests, what came of the one that has begun, and whether it is closed. It owns the stream, so
+/// that no request begins in one stream and goes on in another. The store outlives it, and may serve other clients meanwhile.
 ///
 /// ```
 /// let mut store = Store::new(alloc, 100);

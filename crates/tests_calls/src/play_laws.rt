@@ -1,5 +1,5 @@
-//! The laws of readers and writers that make calls, each by one; and what is inside them: policies, streams, and bytes that are put
-//! in and sent by hand.
+//! The laws of readers and writers that make calls, each by one; and what is inside them: policies, streams, and bytes that
+//! are put in and sent by hand.
 use crate::fixtures::of_four;
 use buffer_redux::policy::{
     FlushAtLeast, FlushExact, FlushOn, FlushOnNewline, MinBuffered, StdPolicy, WriterPolicy,

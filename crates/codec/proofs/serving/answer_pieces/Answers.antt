@@ -27,14 +27,16 @@ returns-in-Closed-clause-ended g c =
     let before = c.loop-turn.invariant in
     let took = subst (λ d. ServesTurn g.R.TellRead.remaining g.W.Tell.log g.W.TellWrite.trace (g.D.Decoder.grammar d)
     (g.D.Items.item_of d) g.S.Service.answers g.S.Service.fails m (Ok Closed) t) before.decoder
-    (rw c.in-Closed.is at c.in_ok-turn.ensures) in
-    (record {
-      exchanges = took.0 ∷ before.exchanges;
-      more = false;
-      last = t;
-      talked = (m, before.talked, took.1);
-      ends = (refl, refl);
-    }, refl)
+    (rw c.in-Closed.is at c.in_ok-turn.ensures) in (
+      record {
+        exchanges = took.0 ∷ before.exchanges;
+        more = false;
+        last = t;
+        talked = (m, before.talked, took.1);
+        ends = (refl, refl);
+      },
+      refl,
+    )
 
 pub returns-in-End-clause-ended : goal.returns-in-End-clause-ended
 returns-in-End-clause-ended g c =
@@ -42,22 +44,23 @@ returns-in-End-clause-ended g c =
     let before = c.loop-turn.invariant in
     let none = subst (λ d. ServesTurn g.R.TellRead.remaining g.W.Tell.log g.W.TellWrite.trace (g.D.Decoder.grammar d)
     (g.D.Items.item_of d) g.S.Service.answers g.S.Service.fails m (Ok End)
-    (server c.turn.new.reader c.turn.new.service c.turn.new.writer)) before.decoder (rw c.in-End.is at c.in_ok-turn.ensures) in
-    (
+    (server c.turn.new.reader c.turn.new.service c.turn.new.writer)) before.decoder (rw c.in-End.is at c.in_ok-turn.ensures) in (
       record { exchanges = before.exchanges; more = true; last = m; talked = before.talked; ends = (refl, none) },
       ap (λ told. not told) c.has_ended-told.ensures.value,
     )
 
 pub returns-clause-ended : goal.returns-clause-ended
 returns-clause-ended g c =
-    let before = c.loop-turn.invariant in
-    (record {
-      exchanges = before.exchanges;
-      more = true;
-      last = server c.loop-turn.reader c.loop-turn.service c.loop-turn.writer;
-      talked = before.talked;
-      ends = (refl, omega (arith, before.count, c.loop-turn-test.false), refl);
-    }, refl)
+    let before = c.loop-turn.invariant in (
+      record {
+        exchanges = before.exchanges;
+        more = true;
+        last = server c.loop-turn.reader c.loop-turn.service c.loop-turn.writer;
+        talked = before.talked;
+        ends = (refl, omega (arith, before.count, c.loop-turn-test.false), refl);
+      },
+      refl,
+    )
 
 pub returns-in_err-turn-clause-failed : goal.returns-in_err-turn-clause-failed
 returns-in_err-turn-clause-failed g c =

@@ -31,13 +31,15 @@ returns-in-Err-clause-collects g c =
 pub allows-requires-clause-known : goal.allows-requires-clause-known
 allows-requires-clause-known g c =
     let before = c.loop-came.out.items in
-    rw (c.deref.ensures.value, c.in-Ok.ensures.items, take_at before c.piece.result.now c.len-known.result (omega (arith, c.len-known.ensures)))
+    let taken = take_at before c.piece.result.now c.len-known.result (omega (arith, c.len-known.ensures)) in
+    rw (c.deref.ensures.value, c.in-Ok.ensures.items, taken)
     c.loop-came.invariant.0.allowed
 
 pub returns-then-not-allows-clause-collects : goal.returns-then-not-allows-clause-collects
 returns-then-not-allows-clause-collects g c =
     let before = c.loop-came.out.items in
-    rw (c.truncate.ensures.items, c.in-Ok.ensures.items, take_at before c.piece.result.now c.len-known.result (omega (arith, c.len-known.ensures)))
+    let taken = take_at before c.piece.result.now c.len-known.result (omega (arith, c.len-known.ensures)) in
+    rw (c.truncate.ensures.items, c.in-Ok.ensures.items, taken)
     (collects_refused g.C.Coding.grammar c.loop-came.invariant.0 c.in_ok-came.ensures.fills (omega (arith, c.if-came-eq0.false))
     (omega (arith, c.if-came-eq0.false, c.if-came-saturating_sub.false, c.saturating_sub.ensures, c.len-known.ensures))
     (rw (c.if-not-allows.true, c.deref.ensures.value, c.in-Ok.ensures.items, c.piece.ensures) at c.allows.ensures))
