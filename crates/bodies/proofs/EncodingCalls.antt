@@ -118,7 +118,8 @@ module _ {W : Type 0} (tells : W → StreamLog) (trace : W → W → Type 0) whe
     ]
 
     ends : (answer : Result (Unit {0}) Error) → WasFlushed tells trace m answer v
-        → (said : Result (Unit {0}) (RunError InputFault)) → failure_count answer ≡ failure_count said → EndAnswers u (body_end []) said v → EndsBody u said v
+        → (said : Result (Unit {0}) (RunError InputFault)) → failure_count answer ≡ failure_count said
+        → EndAnswers u (body_end []) said v → EndsBody u said v
     ends answer f said same_count answers =
         let flush = WasFlushed-writes m v f in
         let writes = WritesOn-joins u.log.writes m.log.writes v.log.writes
