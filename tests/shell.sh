@@ -31,7 +31,7 @@ begins() { # its name
     runs=0
     if [ "$built" = built ] && [ -x "$program" ]; then return 0; fi
     # Unquoted, since these are words.
-    (cd "crates/$name" && rt run -- $(cat args 2> "$scratch/none") < stdin) > "$scratch/built" 2>&1 && return 0
+    (cd "crates/$name" && cat stdin 2> "$scratch/none" | rt run -- $(cat args 2> "$scratch/none")) > "$scratch/built" 2>&1 && return 0
     wrong "$name is not built" "$scratch/built"
     return 1
 }
