@@ -35,7 +35,7 @@ def clauses_of(files, call):
     return found
 
 
-def wrong_in(page, every):
+def wrong_in(page, words):
     """What a page names that isn't there, a line each."""
     wrong, files = [], []
     for number, line in enumerate(page.read_text(encoding="utf-8").splitlines(), 1):
@@ -51,19 +51,19 @@ def wrong_in(page, every):
                 wrong += [f"{number}: `{call}` has no clause `{it}`" for it in clauses if it not in there]
         for word in re.findall(r"`([A-Za-z_]\w*)`", line):
             is_name = word not in crates and (word != word.lower() or "_" in word)
-            if is_name and not re.search(rf"\b{word}\b", every):
+            if is_name and word not in words:
                 wrong.append(f"{number}: `{word}` stands nowhere in the sources")
     return [f"docs/{page.name}:{it}" for it in wrong]
 
 
-def lost_lemmas(page, every):
+def lost_lemmas(page, names):
     """The lemmas that the tables of a page name and that aren't there, a line each."""
     wrong, header = [], ""
     for number, line in enumerate(page.read_text(encoding="utf-8").splitlines(), 1):
         header = "" if not line.startswith("|") else header or line
         if header.startswith(("| To say", "| Of ")):
             for name in re.findall(r"`([A-Z]\w*-\w+)`", line):
-                if not re.search(rf"(?<![\w-]){name}(?![\w-])", every):
+                if name not in names:
                     wrong.append(f"docs/{page.name}:{number}: `{name}` stands nowhere in the sources")
     return wrong
 
@@ -85,8 +85,9 @@ def shared_words():
 
 def main():
     every = "\n".join(sources.values())
-    wrong = [it for page in pages for it in wrong_in(page, every)]
-    wrong += lost_lemmas(top / "docs" / "PROOFS.md", every)
+    words, names = (set(re.findall(it, every)) for it in (r"\w+", r"[\w-]+"))
+    wrong = [it for page in pages for it in wrong_in(page, words)]
+    wrong += lost_lemmas(top / "docs" / "PROOFS.md", names)
     wrong += shared_words()
     named = "each clause, word, file and lemma that CONTRACTS, DESIGN and PROOFS name stands in the sources"
     print("\n".join(wrong) or f"{named}, and a word means one thing")
