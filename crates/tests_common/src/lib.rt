@@ -7,6 +7,7 @@ mod calls;
 pub mod claims;
 pub mod constant;
 mod fixtures;
+mod log;
 mod looks;
 mod makers;
 pub mod policies;
@@ -16,6 +17,7 @@ mod texts;
 
 pub use crate::calls::{consume, fill_buf, flush, kind, read, read_to_end, seek, write, write_all};
 pub use crate::fixtures::{first, holding_in};
+pub use crate::log::Log;
 pub use crate::looks::{asked, flushes, offered, taken, taken_lines};
 pub use crate::makers::{
     Source, Target, line_writer, reader, reader_under, source, target, writer, writer_under,

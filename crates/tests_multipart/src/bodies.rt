@@ -1,45 +1,13 @@
 //! The bodies.
 
-/// A part: its name, its file's name, its type and its text, each empty where there is none.
-#[derive(Clone, Copy)]
-pub struct Part(
-    pub &'static [u8],
-    pub &'static [u8],
-    pub &'static [u8],
-    pub &'static [u8],
-);
-
-/// A boundary, a body, where its parts stand in [`PARTS`], and what stands behind it.
-#[derive(Clone, Copy)]
+/// A boundary, a body, of each of its parts the name, its file's name, its type and its text, with a bar behind each, and what
+/// stands behind the body.
 pub struct Body {
     pub boundary: &'static [u8],
     pub bytes: &'static [u8],
-    pub from: usize,
-    pub count: usize,
+    pub said: &'static [u8],
     pub behind: &'static [u8],
 }
-
-pub static PARTS: [Part; 14] = [
-    Part(b"comment", b"", b"", b"caf\xc3\xa9 & co"),
-    Part(b"file", b"note.txt", b"text/plain", b"one\r\n--two\r\n"),
-    Part(b"quoted %22name%22", b"", b"", b""),
-    Part(b"empty", b"", b"", b""),
-    Part(b"a", b"", b"", b"1"),
-    Part(
-        b"f",
-        b"x.bin",
-        b"application/octet-stream",
-        b"\x00\r\n-\r\n--",
-    ),
-    Part(b"", b"", b"text/plain; charset=\"us-ascii\"", b"hello\r\n"),
-    Part(b"", b"", b"text/html; charset=\"us-ascii\"", b"<b>x</b>"),
-    Part(b"", b"", b"", b"one"),
-    Part(b"", b"", b"", b""),
-    Part(b"", b"", b"", b""),
-    Part(b"", b"", b"", b"\r\n"),
-    Part(b"", b"", b"", b"\r\n--a\r\r\n-\r\n\r\n--"),
-    Part(b"a\\", b"b", b"", b""),
-];
 
 pub static BODIES: [Body; 7] = [
     // `curl -F`, of a text, a file, and two that are empty.
@@ -65,8 +33,7 @@ pub static BODIES: [Body; 7] = [
           \r\n\
           \r\n\
           --------------------------7e8e528b8b54de33--\r\n",
-        from: 0,
-        count: 4,
+        said: b"comment|||caf\xc3\xa9 & co|file|note.txt|text/plain|one\r\n--two\r\n|quoted %22name%22||||empty||||",
         behind: b"\r\n",
     },
     // `urllib3`'s encoder.
@@ -84,8 +51,7 @@ pub static BODIES: [Body; 7] = [
           -\r\n\
           --\r\n\
           --8d4b0a1f--\r\n",
-        from: 4,
-        count: 2,
+        said: b"a|||1|f|x.bin|application/octet-stream|\x00\r\n-\r\n--|",
         behind: b"\r\n",
     },
     // Python's `email`, with a preamble.
@@ -106,8 +72,7 @@ pub static BODIES: [Body; 7] = [
           \r\n\
           <b>x</b>\r\n\
           --===============7330==--\r\n",
-        from: 6,
-        count: 2,
+        said: b"||text/plain; charset=\"us-ascii\"|hello\r\n|||text/html; charset=\"us-ascii\"|<b>x</b>|",
         behind: b"\r\n",
     },
     // RFC 2046, section 5.1.1: no field, blanks behind a boundary, a part without a line, an epilogue.
@@ -128,16 +93,14 @@ pub static BODIES: [Body; 7] = [
           \r\n\
           \r\n\
           --b--epi",
-        from: 8,
-        count: 4,
+        said: b"|||one||||||||||||\r\n|",
         behind: b"epi",
     },
     // No part.
     Body {
         boundary: b"b",
         bytes: b"--b--",
-        from: 12,
-        count: 0,
+        said: b"",
         behind: b"",
     },
     // Beginnings of the boundary in a text.
@@ -151,8 +114,7 @@ pub static BODIES: [Body; 7] = [
           \r\n\
           --\r\n\
           --ab--",
-        from: 12,
-        count: 1,
+        said: b"|||\r\n--a\r\r\n-\r\n\r\n--|",
         behind: b"",
     },
     // A browser: a backslash in quotes stands for itself.
@@ -163,8 +125,7 @@ pub static BODIES: [Body; 7] = [
           \r\n\
           \r\n\
           ------WebKitFormBoundaryQ--\r\n",
-        from: 13,
-        count: 1,
+        said: b"a\\|b|||",
         behind: b"\r\n",
     },
 ];

@@ -1,63 +1,122 @@
-//! A payload that is collected.
-use body_reader::{BodyReader, CollectError, Sized};
+//! Payloads that are collected, and bodies one after another.
+use body_reader::{BodyReader, Coding, JustOrUntil, Sized, Until};
+use buffer_redux::BufReader;
 use redux_script::Answer;
-use std::alloc::Global;
+use std::alloc::{AllocError, Global};
 use std::io;
 use std::test::Fail;
-use tests_common::{Source, holding_in, source};
+use tests_common::{Log, Source, holding, reader, source};
 
-/// The most bytes that the vector may have, what it has then, and whether the body ended.
-static ROWS: [(usize, &[u8], bool); 4] = [
-    (0, b">", false),
-    (3, b">", false),
-    (5, b">hel", false),
-    (6, b">hello", true),
+const HELLO: &[u8] = b"hello, world";
+
+const NONE: &[u8] = b">hel Body(Truncated(3))|>hel Body(Truncated(3))|>hel Body(Truncated(3))|";
+
+// What a stream gives, of which three bytes come first and then eight; how many bytes a vector may have that holds one; what it
+// has then, and how that went: also behind a call under a limit of six, and one of none, since behind the end nothing is too
+// long; and what stays.
+static COLLECTED: [(&[u8], usize, &'static [u8]); 5] = [
+    (HELLO, 0, b"> TooLong|>hello whole|>hello whole|, worl"),
+    (HELLO, 3, b"> TooLong|>hello whole|>hello whole|, worl"),
+    (HELLO, 5, b">hel TooLong|>hello whole|>hello whole|, worl"),
+    (HELLO, 6, b">hello whole|>hello whole|>hello whole|, worl"),
+    (b"hel", 6, NONE),
 ];
 
-fn of_five(
-    alloc: Global,
-    bytes: &[u8],
-    script: &[Answer],
-) -> Result<BodyReader<Source, Sized>, io::Error> {
-    let buffer = holding_in(alloc, false, 8, b"")?;
-    BodyReader::with_buffer(buffer, source(alloc, bytes, script)?, Sized(5)).map_err(
-        io::Error::from,
-    )
+// A body of five bytes, through eight.
+fn of_five(alloc: Global, bytes: &[u8]) -> io::Result<BodyReader<Source, Sized>> {
+    let stream = source(alloc, bytes, &[Answer::Serve(3), Answer::Serve(8)])?;
+    Ok(BodyReader::with_buffer(holding(alloc, 8, b"")?, stream, Sized(5))?)
 }
 
-// Five bytes, of which three come first, and then eight with what follows, behind one that the vector has.
+// Notes what a call leaves in the vector.
+fn note_collected(
+    body: &mut BodyReader<Source, Sized>,
+    most: usize,
+    out: &mut Vec<u8>,
+    log: &mut Log,
+) {
+    let answer = body.collect(most, out);
+    log.note(out.as_slice());
+    log.note(b" ");
+    match answer {
+        Ok(()) => log.note(b"whole"),
+        Err(why) => log.show_debug(&why),
+    }
+    log.note(b"|");
+}
+
+fn is_collected(alloc: Global, bytes: &[u8], most: usize, wants: &[u8]) -> io::Result<bool> {
+    let (mut log, mut out) = (Log::new(alloc), Vec::from_slice(alloc, b">")?);
+    let mut body = of_five(alloc, bytes)?;
+    for most in [most, 6, 0] {
+        note_collected(&mut body, most, &mut out, &mut log);
+    }
+    log.note(body.get_ref().buffer());
+    Ok(log.is(wants))
+}
+
 #[test]
 fn collects(rt: HostRuntime) -> Result<(), Fail> {
-    let alloc = rt.alloc();
-    for &(most, collected, ended) in ROWS.iter() {
-        let script = [Answer::Serve(3), Answer::Serve(8)];
-        let mut body = of_five(alloc, b"hello, world", &script)?;
-        let mut out = Vec::new(alloc);
-        out.extend_from_slice(b">")?;
-        let answer = body.collect(most, &mut out);
-        assert!(rt; answer.is_ok() == ended);
-        assert!(rt; out.as_slice() == collected);
-        if let Err(e) = answer {
-            assert!(rt; matches!(e, CollectError::TooLong));
+    for &(bytes, most, wants) in &COLLECTED {
+        assert!(rt; is_collected(rt.alloc(), bytes, most, wants)?, "{most}");
+    }
+    Ok(())
+}
+
+// Texts up to a line `.`, also where they are empty.
+fn mails(alloc: Global) -> Result<JustOrUntil, AllocError> {
+    let just = Vec::from_slice(alloc, b".\r\n")?;
+    let delimiter = Vec::from_slice(alloc, b"\r\n.\r\n")?;
+    Ok(JustOrUntil {
+        just,
+        until: Until::new(delimiter),
+        room: 5,
+    })
+}
+
+// Notes two reads of a text, each behind a bar.
+fn note_text(body: &mut BodyReader<Source, JustOrUntil>, log: &mut Log) {
+    let mut out = [0; 20];
+    for _ in 0..2 {
+        log.note(b"|");
+        if let Ok(count) = body.read_payload(&mut out) {
+            log.note(out.get(..count).unwrap_or(b"too many"));
         }
-        // A further call goes on.
-        assert!(rt; body.collect(6, &mut out).is_ok());
-        assert!(rt; out.as_slice() == b">hello".as_slice());
-        // Behind the end nothing is too long.
-        assert!(rt; body.collect(0, &mut out).is_ok());
-        assert!(rt; out.as_slice() == b">hello".as_slice());
-        assert!(rt; body.get_ref().buffer() == b", worl".as_slice());
+    }
+}
+
+// Goes on to the next body, where the buffer has room for a look.
+fn turn(body: &mut BodyReader<Source, JustOrUntil>, other: &mut JustOrUntil) {
+    if body.get_ref().capacity() >= other.ahead() {
+        body.begin_next(other);
+    }
+}
+
+// Notes two texts, drops a third, and notes what is behind.
+fn note_texts(mut body: BodyReader<Source, JustOrUntil>, other: &mut JustOrUntil, log: &mut Log) {
+    note_text(&mut body, log);
+    turn(&mut body, other);
+    note_text(&mut body, log);
+    turn(&mut body, other);
+    if body.drain().is_ok() && body.is_done() {
+        log.note(body.into_inner_torn().buffer());
+    }
+}
+
+fn note_mails(alloc: Global, inner: BufReader<Source>, log: &mut Log) -> Result<(), AllocError> {
+    let mut other = mails(alloc)?;
+    let coding = mails(alloc)?;
+    if inner.capacity() >= coding.ahead() {
+        note_texts(BodyReader::new(inner, coding), &mut other, log);
     }
     Ok(())
 }
 
 #[test]
-fn collects_what_came(rt: HostRuntime) -> Result<(), Fail> {
-    let alloc = rt.alloc();
-    let mut body = of_five(alloc, b"hel", &[])?;
-    let mut out = Vec::new(alloc);
-    let refused = body.collect(6, &mut out);
-    assert!(rt; matches!(refused, Err(CollectError::Body(_))));
-    assert!(rt; out.as_slice() == b"hel".as_slice());
+fn goes_from_body_to_body(rt: HostRuntime) -> Result<(), Fail> {
+    let mut log = Log::new(rt.alloc());
+    let stream = source(rt.alloc(), b"a\r\n..\r\n.\r\n.\r\nb\r\n.\r\nQUIT", &[])?;
+    note_mails(rt.alloc(), reader(rt.alloc(), 64, b"", stream)?, &mut log)?;
+    assert!(rt; log.is(b"|a\r\n..|||QUIT"));
     Ok(())
 }

@@ -1,11 +1,14 @@
 //! The examples of the pages.
 use buffer_redux::BufReader;
+use buffer_redux::policy::{MinBuffered, ReaderPolicy};
+use buffer_redux::tell::TellRead;
 use multipart::{Limits, Multipart, field, parameter};
+use redux_script::Answer;
 use std::alloc::Global;
 use std::io;
-use std::io::ErrorKind;
+use std::io::{BufRead, ErrorKind};
 use std::test::Fail;
-use tests_common::{Source, holding_in, source};
+use tests_common::{Source, kind, reader, reader_under, source};
 
 // The text of the part of this name.
 fn text_of(alloc: Global, reader: BufReader<Source>, name: &[u8]) -> io::Result<Vec<u8>> {
@@ -46,10 +49,30 @@ fn append_text(parts: &mut Multipart<Source>, name: &[u8], text: &mut Vec<u8>) -
 fn reads_a_part(rt: HostRuntime) -> Result<(), Fail> {
     let alloc = rt.alloc();
     let form = b"--AaB03x\r\nContent-Disposition: form-data; name=\"a\"\r\n\r\nhello\r\n--AaB03x--";
-    let reader = BufReader::with_buffer(
-        holding_in(alloc, false, 16, b"")?,
-        source(alloc, form, &[])?,
-    );
+    let reader = reader(alloc, 16, b"", source(alloc, form, &[])?)?;
     assert!(rt; text_of(alloc, reader, b"a")?.as_slice() == b"hello".as_slice());
+    Ok(())
+}
+
+// Behind a delimiter stands a line end, or `--` where no part follows.
+fn is_last_by_fill<R: TellRead>(reader: &mut BufReader<R, MinBuffered>) -> io::Result<bool> {
+    Ok(reader.fill_buf()?.starts_with(b"--"))
+}
+
+fn is_last<R: TellRead, P: ReaderPolicy>(reader: &mut BufReader<R, P>) -> io::Result<bool> {
+    Ok(reader.peek(2)?.starts_with(b"--"))
+}
+
+// What both say where no more comes behind the two bytes: the next read would wait.
+fn both(reader: &mut BufReader<Source, MinBuffered>) -> [Result<bool, ErrorKind>; 2] {
+    [kind(is_last_by_fill(reader)), kind(is_last(reader))]
+}
+
+#[test]
+fn waits_for_a_minimum(rt: HostRuntime) -> Result<(), Fail> {
+    let script = [Answer::Serve(2), Answer::Fail(ErrorKind::WouldBlock)];
+    let reader = reader(rt.alloc(), 64, b"", source(rt.alloc(), b"--", &script)?)?;
+    let came = both(&mut reader_under(reader, MinBuffered(8)));
+    assert!(rt; came == [Err(ErrorKind::WouldBlock), Ok(true)]);
     Ok(())
 }

@@ -9,5 +9,3 @@ mod collected;
 mod examples;
 #[cfg(test)]
 mod parts;
-#[cfg(test)]
-mod waits;

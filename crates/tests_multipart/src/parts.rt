@@ -1,15 +1,15 @@
 //! Readers of parts.
-use crate::bodies::{BODIES, Body, PARTS, Part};
-use body_reader::{BodyReader, Coding, JustOrUntil, Until};
+use crate::bodies::{BODIES, Body};
+use body_reader::BodyError;
 use buffer_redux::BufReader;
 use buffer_redux::policy::{MinBuffered, ReaderPolicy};
 use multipart::{Limits, Multipart, NewError, PartError, Stand, field, parameter};
 use redux_script::Answer;
-use std::alloc::{AllocError, Global};
+use std::alloc::Global;
 use std::io;
 use std::io::ErrorKind;
 use std::test::Fail;
-use tests_common::{Source, asked, display, first, holding_in, source};
+use tests_common::{Log, Source, asked, first, holding_in, reader, reader_under, source};
 
 const LIMITS: Limits = Limits {
     head: 200,
@@ -25,127 +25,123 @@ struct Play<'a> {
     lent: bool,
 }
 
-// A reader of the first bytes of a body.
-fn reader(
+// One read of text.
+fn next<P: ReaderPolicy + Drop>(
+    parts: &mut Multipart<Source, P>,
+    lent: bool,
+    out: &mut [u8],
+) -> Result<usize, BodyError<()>> {
+    if !lent {
+        return parts.read(out);
+    }
+    let _ = parts.fill()?;
+    let piece = parts.piece();
+    let count = piece.len().min(out.len());
+    out[..count].copy_from_slice(&piece[..count]);
+    parts.consume(count);
+    Ok(count)
+}
+
+// Notes the text of a part, and a bar.
+fn note_text<P: ReaderPolicy + Drop>(
+    parts: &mut Multipart<Source, P>,
+    lent: bool,
+    log: &mut Log,
+) -> Result<(), BodyError<()>> {
+    let mut out = [0; 5];
+    for _ in 0..200 {
+        let count = next(parts, lent, &mut out)?;
+        if count == 0 {
+            break;
+        }
+        log.note(first(&out, count));
+    }
+    Ok(log.note(b"|"))
+}
+
+// Notes what a head says, nothing where it doesn't, each with a bar.
+fn note_head(head: &[u8], log: &mut Log) {
+    let said = field(head, b"content-disposition").unwrap_or(b"");
+    log.note(parameter(said, b"name").unwrap_or(b""));
+    log.note(b"|");
+    log.note(parameter(said, b"filename").unwrap_or(b""));
+    log.note(b"|");
+    log.note(field(head, b"content-type").unwrap_or(b""));
+    log.note(b"|");
+}
+
+fn note_parts<P: ReaderPolicy + Drop>(
+    parts: &mut Multipart<Source, P>,
+    lent: bool,
+    log: &mut Log,
+) -> Result<(), PartError> {
+    for _ in 0..20 {
+        if !parts.next_part()? {
+            break;
+        }
+        note_head(parts.head(), log);
+        note_text(parts, lent, log)?;
+    }
+    Ok(())
+}
+
+// Notes each part, and then `end`, or why there is no other.
+fn note_all<P: ReaderPolicy + Drop>(parts: &mut Multipart<Source, P>, lent: bool, log: &mut Log) {
+    match note_parts(parts, lent, log) {
+        Ok(()) => log.note(b"end"),
+        Err(why) => log.show(&why),
+    }
+}
+
+fn parts_of<P: ReaderPolicy + Drop>(
     alloc: Global,
-    body: &Body,
-    count: usize,
-    play: Play<'_>,
-) -> io::Result<BufReader<Source>> {
-    let capacity = play.capacity.max(body.boundary.len() + 4);
-    let buffer = holding_in(alloc, play.is_ring, capacity, b"")?;
-    Ok(BufReader::with_buffer(
-        buffer,
-        source(alloc, first(body.bytes, count), play.script)?,
+    inner: BufReader<Source, P>,
+    boundary: &[u8],
+    limits: Limits,
+) -> io::Result<Multipart<Source, P>> {
+    Multipart::new(alloc, inner, boundary, limits).map_err(|_| io::Error::from(
+        ErrorKind::InvalidInput,
     ))
 }
 
-// Reads the text of a part on: whether it ended, or nothing where the stream did.
-fn read_text<P: ReaderPolicy + Drop>(
-    parts: &mut Multipart<Source, P>,
-    lent: bool,
-    text: &mut Vec<u8>,
-) -> io::Result<bool> {
-    let mut out = [0; 5];
-    for _ in 0..200 {
-        let count = if lent {
-            match parts.fill() {
-                Ok(n) => {
-                    text.extend_from_slice(parts.piece())?;
-                    parts.consume(n);
-                    n
-                }
-                Err(_) => return Ok(false),
-            }
-        } else {
-            match parts.read(&mut out) {
-                Ok(n) => {
-                    text.extend_from_slice(first(&out, n))?;
-                    n
-                }
-                Err(_) => return Ok(false),
-            }
-        };
-        if count == 0 {
-            return Ok(true);
-        }
-    }
-    Ok(false)
+fn inner(alloc: Global, bytes: &[u8], play: Play<'_>) -> io::Result<BufReader<Source>> {
+    let stream = source(alloc, bytes, play.script)?;
+    Ok(BufReader::with_buffer(holding_in(alloc, play.is_ring, play.capacity, b"")?, stream))
 }
 
-// Whether a head says what a part wants.
-fn says(head: &[u8], part: &Part) -> bool {
-    let said = field(head, b"content-disposition").unwrap_or(b"");
-    parameter(said, b"name").unwrap_or(b"") == part.0
-        && parameter(said, b"filename").unwrap_or(b"") == part.1
-        && field(head, b"content-type").unwrap_or(b"") == part.2
+// Whether parts end again as they did.
+fn end_again(alloc: Global, parts: &mut Multipart<Source>, lent: bool, log: &Log) -> bool {
+    let mut again = Log::new(alloc);
+    note_all(parts, lent, &mut again);
+    log.text().ends_with(again.text())
 }
 
-// How many parts come whole, each as it should; nothing where one doesn't. A last one may be cut off, and begins as it should.
-fn whole_parts<P: ReaderPolicy + Drop>(
-    alloc: Global,
-    parts: &mut Multipart<Source, P>,
-    body: &Body,
-    lent: bool,
-) -> io::Result<Option<usize>> {
-    for i in 0..body.count {
-        let Some(part) = PARTS.get(body.from.saturating_add(i)) else {
-            return Ok(None);
-        };
-        match parts.next_part() {
-            Ok(true) => {}
-            Ok(false) => return Ok(None),
-            Err(PartError::Truncated) => return Ok(Some(i)),
-            Err(_) => return Ok(None),
-        }
-        if !says(parts.head(), part) {
-            return Ok(None);
-        }
-        let mut text = Vec::new(alloc);
-        let ended = read_text(parts, lent, &mut text)?;
-        if !part.3.starts_with(text.as_slice()) {
-            return Ok(None);
-        }
-        if !ended {
-            return Ok(Some(i));
-        }
-        if text.len() < part.3.len() {
-            return Ok(None);
-        }
-    }
-    Ok(Some(body.count))
-}
-
-// Whether a body comes whole so, and what is behind it stays.
-fn comes(alloc: Global, body: &Body, play: Play<'_>) -> io::Result<bool> {
-    let inner = reader(alloc, body, body.bytes.len(), play)?;
-    let Ok(mut parts) = Multipart::new(alloc, inner, body.boundary, LIMITS) else {
-        return Ok(false);
+// Whether what is noted is the beginning of this, and then that the stream ended, or all, and the end.
+fn is_said(noted: &[u8], said: &[u8], is_whole: bool) -> bool {
+    let end = if is_whole {
+        b"end".as_slice()
+    } else {
+        b"the stream ended within the body"
     };
-    if whole_parts(alloc, &mut parts, body, play.lent)? != Some(body.count) {
-        return Ok(false);
+    match noted.strip_suffix(end) {
+        Some(front) => said.starts_with(front) && (front == said || !is_whole),
+        None => false,
     }
-    let ended = matches!(parts.next_part(), Ok(false)) && parts.stand() == Stand::Ended;
-    let again = matches!(parts.next_part(), Ok(false)) && matches!(parts.fill(), Ok(0));
+}
+
+// Whether just the parts that are there come of the first bytes, and then the end twice, and what is behind stays.
+fn comes(alloc: Global, body: &Body, count: usize, play: Play<'_>) -> io::Result<bool> {
+    let mut log = Log::new(alloc);
+    let capacity = play.capacity.max(body.boundary.len().saturating_add(4));
+    let inner = inner(alloc, first(body.bytes, count), Play { capacity, ..play })?;
+    let mut parts = parts_of(alloc, inner, body.boundary, LIMITS)?;
+    note_all(&mut parts, play.lent, &mut log);
+    let is_whole = count >= body.bytes.len().saturating_sub(body.behind.len());
+    let is_so = is_said(log.text(), body.said, is_whole)
+        && (parts.stand() == Stand::Ended) == is_whole
+        && end_again(alloc, &mut parts, play.lent, &log);
     let rest = parts.into_inner_torn();
-    Ok(ended && again && body.behind.starts_with(rest.buffer()))
-}
-
-// Whether just the parts that are there come of the first bytes, and then that the stream ended.
-fn is_cut(alloc: Global, body: &Body, count: usize, play: Play<'_>) -> io::Result<bool> {
-    let inner = reader(alloc, body, count, play)?;
-    let Ok(mut parts) = Multipart::new(alloc, inner, body.boundary, LIMITS) else {
-        return Ok(false);
-    };
-    let Some(_) = whole_parts(alloc, &mut parts, body, play.lent)? else {
-        return Ok(false);
-    };
-    let end = body.bytes.len().saturating_sub(body.behind.len());
-    match parts.next_part() {
-        Ok(false) => Ok(count >= end),
-        Err(PartError::Truncated) => Ok(count < end),
-        _ => Ok(false),
-    }
+    Ok(is_so && (!is_whole || body.behind.starts_with(rest.buffer())))
 }
 
 #[test]
@@ -161,7 +157,7 @@ fn reads_parts(rt: HostRuntime) -> Result<(), Fail> {
                         is_ring,
                         lent,
                     };
-                    assert!(rt; comes(rt.alloc(), body, play)?);
+                    assert!(rt; comes(rt.alloc(), body, body.bytes.len(), play)?);
                 }
             }
         }
@@ -172,7 +168,7 @@ fn reads_parts(rt: HostRuntime) -> Result<(), Fail> {
 #[test]
 fn tells_where_bodies_are_cut(rt: HostRuntime) -> Result<(), Fail> {
     for body in &BODIES {
-        for count in 0..=body.bytes.len() {
+        for count in 0..body.bytes.len() {
             for (piece, capacity, lent) in [(1000, 0, false), (7, 64, true), (1000, 8192, false)] {
                 let script = [Answer::ServeEach(piece)];
                 let play = Play {
@@ -181,153 +177,114 @@ fn tells_where_bodies_are_cut(rt: HostRuntime) -> Result<(), Fail> {
                     is_ring: false,
                     lent,
                 };
-                assert!(rt; is_cut(rt.alloc(), body, count, play)?);
+                assert!(rt; comes(rt.alloc(), body, count, play)?);
             }
         }
     }
     Ok(())
 }
 
-// Whether what was given settles so many parts, and that there is no other or none yet, of a stream that is asked once alone.
+// What comes of bytes before the stream is asked for more, which fails and ends it.
+static SHOWN: [(&[u8], &[u8]); 6] = [
+    (b"--b\r\n\r\n", b"|||timed out"),
+    (b"--b\r\n\r\nab", b"|||abtimed out"),
+    (b"--b\r\n\r\nab\r\n-", b"|||abtimed out"),
+    (b"--b\r\n\r\nab\r\n--b\r\n\r\nc", b"|||ab||||ctimed out"),
+    (b"--b\r\n\r\nab\r\n--b--", b"|||ab|end"),
+    (b"--b--", b"end"),
+];
+
 fn settles<P: ReaderPolicy + Drop>(
     alloc: Global,
     inner: BufReader<Source, P>,
-    texts: &[&[u8]],
-    is_over: bool,
+    lent: bool,
+    said: &[u8],
 ) -> io::Result<bool> {
-    let Ok(mut parts) = Multipart::new(alloc, inner, b"b", LIMITS) else {
-        return Ok(false);
-    };
-    for text in texts {
-        if !matches!(parts.next_part(), Ok(true)) {
-            return Ok(false);
-        }
-        let mut came = Vec::new(alloc);
-        for _ in 0..20 {
-            if came.len() == text.len() {
-                break;
-            }
-            let Ok(n) = parts.fill() else {
-                return Ok(false);
-            };
-            came.extend_from_slice(parts.piece())?;
-            parts.consume(n);
-        }
-        if came.as_slice() != *text {
-            return Ok(false);
-        }
+    let mut log = Log::new(alloc);
+    let mut parts = parts_of(alloc, inner, b"b", LIMITS)?;
+    note_all(&mut parts, lent, &mut log);
+    Ok(log.is(said) && asked(parts.get_ref()).len() <= 2)
+}
+
+// The same under such a minimum.
+fn settles_under(
+    alloc: Global,
+    inner: BufReader<Source>,
+    minimum: Option<usize>,
+    lent: bool,
+    said: &[u8],
+) -> io::Result<bool> {
+    match minimum {
+        Some(n) => settles(alloc, reader_under(inner, MinBuffered(n)), lent, said),
+        None => settles(alloc, inner, lent, said),
     }
-    if is_over && !matches!(parts.next_part(), Ok(false)) {
-        return Ok(false);
-    }
-    Ok(asked(parts.get_ref()).len() == 1)
 }
 
 #[test]
 fn asks_for_nothing_that_is_settled(rt: HostRuntime) -> Result<(), Fail> {
     let alloc = rt.alloc();
-    let script = [Answer::Serve(100), Answer::Fail(ErrorKind::TimedOut)];
-    let shown: [(&[u8], &[&[u8]], bool); 6] = [
-        (b"--b\r\n\r\n", &[b""], false),
-        (b"--b\r\n\r\nab", &[b"ab"], false),
-        (b"--b\r\n\r\nab\r\n-", &[b"ab"], false),
-        (b"--b\r\n\r\nab\r\n--b\r\n\r\nc", &[b"ab", b"c"], false),
-        (b"--b\r\n\r\nab\r\n--b--", &[b"ab"], true),
-        (b"--b--", &[], true),
-    ];
-    for (bytes, texts, is_over) in shown {
-        for is_ring in [false, true] {
+    for &(bytes, said) in &SHOWN {
+        for (is_ring, lent) in [(false, false), (false, true), (true, true)] {
             for minimum in [None, Some(0), Some(1), Some(64)] {
-                let inner: BufReader<Source> = BufReader::with_buffer(
-                    holding_in(alloc, is_ring, 64, b"")?,
-                    source(alloc, bytes, &script)?,
-                );
-                let settled = match minimum {
-                    Some(n) => settles(alloc, inner.set_policy(MinBuffered(n)), texts, is_over)?,
-                    None => settles(alloc, inner, texts, is_over)?,
+                let play = Play {
+                    script: &[Answer::Serve(100), Answer::Fail(ErrorKind::TimedOut)],
+                    capacity: 64,
+                    is_ring,
+                    lent,
                 };
-                assert!(rt; settled);
+                let inner = inner(alloc, bytes, play)?;
+                assert!(rt; settles_under(alloc, inner, minimum, lent, said)?);
             }
         }
     }
     Ok(())
 }
 
-// Whether the parts of these bytes, which come in such pieces, end by an error that says so, twice. The end isn't seen.
-fn fails(alloc: Global, bytes: &[u8], piece: usize, why: &str) -> io::Result<bool> {
-    let inner = BufReader::with_buffer(
-        holding_in(alloc, false, 100, b"")?,
-        source(alloc, bytes, &[Answer::ServeEach(piece)])?,
-    );
-    let limits = Limits { head: 9, parts: 1 };
-    let Ok(mut parts) = Multipart::new(alloc, inner, b"b", limits) else {
-        return Ok(false);
-    };
-    for _ in 0..2 {
-        let mut answer = parts.next_part();
-        if matches!(answer, Ok(true)) {
-            answer = parts.next_part();
-        }
-        match answer {
-            Ok(_) => return Ok(false),
-            Err(e) => {
-                if display(alloc, &e)?.as_str() != why {
-                    return Ok(false);
-                }
-            }
-        }
-    }
-    Ok(true)
-}
+const BOUNDARY: &[u8] = b"a boundary is not alone in its line, or in a head";
 
-// Bytes, and why their parts end.
-static WRONG: [(&[u8], &str); 17] = [
-    (
-        b"--bc\r\n\r\n",
-        "a boundary is not alone in its line, or in a head",
-    ),
-    (b"--bc", "a boundary is not alone in its line, or in a head"),
-    (
-        b"--b-\r",
-        "a boundary is not alone in its line, or in a head",
-    ),
-    (
-        b"--b \tc",
-        "a boundary is not alone in its line, or in a head",
-    ),
-    (
-        b"--b\n",
-        "a boundary is not alone in its line, or in a head",
-    ),
-    (
-        b"--b\rc",
-        "a boundary is not alone in its line, or in a head",
-    ),
-    (
-        b"--b \r\r",
-        "a boundary is not alone in its line, or in a head",
-    ),
-    (
-        b"--b\r\n--b",
-        "a boundary is not alone in its line, or in a head",
-    ),
-    (
-        b"--b\r\nA\r\n--b",
-        "a boundary is not alone in its line, or in a head",
-    ),
-    (b"--b\r\nA: 123456", "the head of a part is too long"),
-    (b"--b          ", "the head of a part is too long"),
-    (b"--b\r\n\r\n\r\n--b\r\n\r\n", "there are too many parts"),
-    (b"--b\r\n\r\n\r\n--b\r\nA", "there are too many parts"),
-    (b"--b\r\n\r\n\r\n--b ", "there are too many parts"),
-    (b"--b\r\n\r\n\r\n--b\r", "there are too many parts"),
-    (b"--b\r\n\r\n\r\n--b-a", "there are too many parts"),
-    (b"--b\r\n\r\n\r\n--bc", "there are too many parts"),
+const LONG: &[u8] = b"the head of a part is too long";
+
+// Behind a part that says nothing.
+const MANY: &[u8] = b"||||there are too many parts";
+
+// Bytes, and why their parts end, under limits of nine bytes of a head and of one part.
+static WRONG: [(&[u8], &[u8]); 17] = [
+    (b"--bc\r\n\r\n", BOUNDARY),
+    (b"--bc", BOUNDARY),
+    (b"--b-\r", BOUNDARY),
+    (b"--b \tc", BOUNDARY),
+    (b"--b\n", BOUNDARY),
+    (b"--b\rc", BOUNDARY),
+    (b"--b \r\r", BOUNDARY),
+    (b"--b\r\n--b", BOUNDARY),
+    (b"--b\r\nA\r\n--b", BOUNDARY),
+    (b"--b\r\nA: 123456", LONG),
+    (b"--b          ", LONG),
+    (b"--b\r\n\r\n\r\n--b\r\n\r\n", MANY),
+    (b"--b\r\n\r\n\r\n--b\r\nA", MANY),
+    (b"--b\r\n\r\n\r\n--b ", MANY),
+    (b"--b\r\n\r\n\r\n--b\r", MANY),
+    (b"--b\r\n\r\n\r\n--b-a", MANY),
+    (b"--b\r\n\r\n\r\n--bc", MANY),
 ];
+
+// Whether the parts of these bytes, which come in such pieces, end so, twice. The end isn't seen.
+fn fails(alloc: Global, bytes: &[u8], piece: usize, why: &[u8]) -> io::Result<bool> {
+    let mut log = Log::new(alloc);
+    let inner = reader(
+        alloc,
+        100,
+        b"",
+        source(alloc, bytes, &[Answer::ServeEach(piece)])?,
+    )?;
+    let mut parts = parts_of(alloc, inner, b"b", Limits { head: 9, parts: 1 })?;
+    note_all(&mut parts, false, &mut log);
+    Ok(log.is(why) && end_again(alloc, &mut parts, false, &log))
+}
 
 #[test]
 fn refuses_what_is_wrong(rt: HostRuntime) -> Result<(), Fail> {
-    for &(bytes, why) in WRONG.iter() {
+    for &(bytes, why) in &WRONG {
         for piece in [1, 1000] {
             assert!(rt; fails(rt.alloc(), bytes, piece, why)?);
         }
@@ -335,61 +292,22 @@ fn refuses_what_is_wrong(rt: HostRuntime) -> Result<(), Fail> {
     Ok(())
 }
 
+fn is_refused(alloc: Global, inner: BufReader<Source>, boundary: &[u8], why: NewError) -> bool {
+    match Multipart::new(alloc, inner, boundary, LIMITS) {
+        Ok(_) => false,
+        Err((_, refusal)) => refusal == why,
+    }
+}
+
 #[test]
 fn refuses_to_begin(rt: HostRuntime) -> Result<(), Fail> {
-    let alloc = rt.alloc();
-    for (boundary, capacity) in [(b"".as_slice(), 100), (b"0123456789".as_slice(), 13)] {
-        let inner = BufReader::with_buffer(
-            holding_in(alloc, false, capacity, b"")?,
-            source(alloc, b"", &[])?,
-        );
-        let answer = Multipart::new(alloc, inner, boundary, LIMITS);
-        assert!(rt; matches!(answer, Err((_, NewError::Boundary | NewError::Room))));
+    let rows: [(&[u8], usize, NewError); 2] = [
+        (b"", 100, NewError::Boundary),
+        (b"0123456789", 13, NewError::Room),
+    ];
+    for (boundary, capacity, why) in rows {
+        let inner = reader(rt.alloc(), capacity, b"", source(rt.alloc(), b"", &[])?)?;
+        assert!(rt; is_refused(rt.alloc(), inner, boundary, why));
     }
-    Ok(())
-}
-
-// Texts up to a line `.`, also where they are empty.
-fn mails(alloc: Global) -> Result<JustOrUntil, AllocError> {
-    let just = Vec::from_slice(alloc, b".\r\n")?;
-    let delimiter = Vec::from_slice(alloc, b"\r\n.\r\n")?;
-    Ok(JustOrUntil {
-        just,
-        until: Until::new(delimiter),
-        room: 5,
-    })
-}
-
-// Whether the payload of each text comes, and of the last what is left is dropped; what follows stays.
-fn reads_mails(alloc: Global, inner: BufReader<Source>) -> io::Result<bool> {
-    let (coding, mut other) = (mails(alloc)?, mails(alloc)?);
-    if inner.capacity() < coding.ahead() {
-        return Ok(false);
-    }
-    let mut body = BodyReader::new(inner, coding);
-    for text in [b"a\r\n..".as_slice(), b"".as_slice()] {
-        let mut out = [0; 20];
-        let came = matches!(body.read_payload(&mut out), Ok(n) if first(&out, n) == text);
-        if !came
-            || !matches!(body.read_payload(&mut out), Ok(0))
-            || body.get_ref().capacity() < other.ahead()
-        {
-            return Ok(false);
-        }
-        body.begin_next(&mut other);
-    }
-    let drained = matches!(body.drain(), Ok(()));
-    Ok(drained && body.is_done() && body.into_inner_torn().buffer() == b"QUIT".as_slice())
-}
-
-#[test]
-fn goes_from_body_to_body(rt: HostRuntime) -> Result<(), Fail> {
-    let alloc = rt.alloc();
-    let bytes = b"a\r\n..\r\n.\r\n.\r\nb\r\n.\r\nQUIT";
-    let inner = BufReader::with_buffer(
-        holding_in(alloc, false, 64, b"")?,
-        source(alloc, bytes, &[])?,
-    );
-    assert!(rt; reads_mails(alloc, inner)?);
     Ok(())
 }
