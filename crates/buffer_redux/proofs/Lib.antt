@@ -15,6 +15,7 @@ pub mod WriteAllCauses
 pub mod WriteAllCounts
 pub mod WriteAll
 pub mod TextPieces
+pub mod ReadAllCounts
 pub mod ReadAll
 pub mod Retrying
 pub mod Searching

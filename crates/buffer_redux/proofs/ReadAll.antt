@@ -1,5 +1,5 @@
 -- A read of a whole slice, read after read.
-use Rattle.std.proofs.Common.{◌≡◌, ℕ, ◌+◌, ◌-◌, ◌<◌, ◌≤◌, List, [], ◌++◌, length, take, drop, Result, Ok, Err, OnOk, Option, refl, sym, ap, subst, ◌∙◌, arith, le_refl, append-nil, take_all, take-add, take-append-drop, drop_at, length-append, length-drop, length-take-le}
+use Rattle.std.proofs.Common.{◌≡◌, ℕ, ◌+◌, ◌-◌, ◌<◌, ◌≤◌, List, [], ◌++◌, length, take, drop, Result, Ok, Err, OnOk, IfErr, true, ◌*◌, Option, refl, sym, ap, subst, ◌∙◌, arith, le_refl, append-nil, take_all, take-add, take-append-drop, drop_at, length-append, length-drop, length-take-le}
 use Rattle.std.proofs.lemmas.List.{drop_all}
 use Rattle.std.proofs.lemmas.Slice.{take-put_mid_below}
 use borrow.Rule.Slice.PartMut.{put_mid, post_of}
@@ -8,6 +8,7 @@ use Rattle.std.specs.Io.KnownBytes.{Consumes}
 use Rattle.std.specs.declared.io.Error.{Error}
 use Rattle.std.specs.declared.io.ErrorKind.TheVariants.{UnexpectedEof}
 use Rattle.redux_buffer.specs.Block.{IsBlock}
+use Rattle.redux_buffer.specs.Faults.{IsInterrupt, failure_count, interrupt_limit}
 use Rattle.redux_buffer.specs.Retried.{InterruptedSteps-before, Retried, Retried-once}
 use Rattle.redux_buffer.specs.StreamLog.{portion}
 use Rattle.buffer_redux.specs.Policy.{ReadRules}
@@ -17,7 +18,9 @@ use Rattle.buffer_redux.specs.BufReader.{ReadsInOrder, ReaderKeeps, ReadErrorCau
 use Rattle.buffer_redux.specs.ReaderLaws.{remaining_gives}
 use Rattle.buffer_redux.specs.Remaining.{reader_remaining}
 use Rattle.buffer_redux.specs.ReadAll.{ReadTurns, FillsSlice, ReadsExactly, OneRead, SliceRead, SliceStep}
+use Rattle.buffer_redux.specs.ReadExact.{ReadExactErrorCaused}
 use Rattle.buffer_redux.specs.ReadAllLaws.{HandedFront-joins, HandedFront-none, OneRead-tells}
+use Rattle.buffer_redux.proofs.ReadAllCounts.{exact_caused, exact_few, exact_often}
 use Rattle.buffer_redux.proofs.WriteAll.{one_more, none_taken}
 
 -- the slice after a read into what stands from `at` on
@@ -242,6 +245,10 @@ module _ {S P : Type 0} (remaining : S → Option (List ℕ)) (rules : ReadRules
       in_order : OnOk answer (ReadsInOrder s out t);
       beginning : (count : ℕ) × (count ≤ length out) × ReadsInOrder s (take count out) t;
       bytes : OnOk answer (Consumes (reader_remaining remaining rules s) (reader_remaining remaining rules t) out);
+      few : length t.log.reads.faults ≤ length s.log.reads.faults + interrupt_limit * length out + failure_count answer;
+      often : (rules.claims s.policy).steady ≡ true → IfErr answer (λ e. IsInterrupt e
+          → length s.log.reads.faults + interrupt_limit + 1 ≤ length t.log.reads.faults);
+      caused : IfErr answer (λ e. ReadExactErrorCaused remaining rules s out e t);
       whole : IsBlock t.block;
       steps : ReadsExactly remaining rules s was answer out t;
     }
@@ -251,6 +258,9 @@ module _ {S P : Type 0} (remaining : S → Option (List ℕ)) (rules : ReadRules
           in_order = in_order answer r;
           beginning = beginning r;
           bytes = known answer r;
+          few = exact_few remaining rules s was answer out t r;
+          often = exact_often remaining rules s was answer out t r;
+          caused = exact_caused remaining rules s was answer out t r;
           whole = keeps.whole;
           steps = r;
         }

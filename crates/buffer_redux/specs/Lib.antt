@@ -34,6 +34,7 @@ pub mod ReaderLaws
 pub mod Remaining
 pub mod RemainingLaws
 pub mod ReadAll
+pub mod ReadExact
 pub mod ReadAllLaws
 pub mod ReadInside
 pub mod FillRetried

@@ -1,16 +1,18 @@
 //! The buffered reader.
-ghost use Rattle.std.specs.Prelude.{◌≡◌, ℕ, ◌<◌, ◌≤◌, ◌^◌, [], length, take, min, Ok, Some, IfSome, IfOk, OnOk, OnErr, IsOk};
+ghost use Rattle.std.specs.Prelude.{◌≡◌, ℕ, ◌+◌, ◌*◌, ◌<◌, ◌≤◌, ◌^◌, [], length, take, min, true, Ok, Some, IfErr, IfSome, IfOk, OnOk, OnErr, IsOk};
 ghost use Rattle.std.specs.Borrow.{sem, Lends};
 ghost use Rattle.std.specs.Io.{ReadsAtMost, StartsWith};
 ghost use Rattle.std.specs.Io.BufRead.{Rests, DropsConsumable};
 ghost use Rattle.std.specs.Io.KnownBytes.{Consumes, IsAtEnd, ReadConsumes};
 ghost use Rattle.redux_buffer.specs.Block.{Plain, Ring, IsBlock, LeavesBytes, MakesRoom, Reserves, capacity_for, round, usable};
+ghost use Rattle.redux_buffer.specs.Faults.{IsInterrupt, failure_count, interrupt_limit};
 ghost use Rattle.redux_buffer.specs.GrowError.{FitsWithin};
 ghost use Rattle.redux_buffer.specs.StreamLog.{portion};
 ghost use Rattle.buffer_redux.specs.contracts.buf_reader.BufReader.{the_row};
 ghost use Rattle.buffer_redux.specs.Buffered.{over_buffer, with_block, with_inner, with_policy, Makes};
 ghost use Rattle.buffer_redux.specs.BufReader.{ReadsInOrder, ReadErrorCaused, EmptyReadCaused, RanDry, FillBuf, ReaderConsumes, ReaderKeeps, Reads, ReadsIntoBuf};
 ghost use Rattle.buffer_redux.specs.ReadAll.{ReadsExactly};
+ghost use Rattle.buffer_redux.specs.ReadExact.{ReadExactErrorCaused};
 ghost use Rattle.buffer_redux.specs.ReaderLaws.{WantsBytes};
 ghost use Rattle.buffer_redux.specs.Remaining.{reader_remaining};
 ghost use Rattle.buffer_redux.specs.Sparing.{Spared};
@@ -318,6 +320,11 @@ impl<R: TellRead, P: ReaderPolicy> Read for BufReader<R, P> {
         ensures beginning { (count : ℕ) × (count ≤ length out.new) × ReadsInOrder self.old (take count out.new) self.new }
         ensures bytes { OnOk result (Consumes (reader_remaining R.remaining P.rules self.old)
             (reader_remaining R.remaining P.rules self.new) out.new) }
+        ensures few { length self.new.log.reads.faults
+            ≤ length self.old.log.reads.faults + interrupt_limit * length out.new + failure_count result }
+        ensures often { (P.rules.claims self.old.policy).steady ≡ true → IfErr result (λ e. IsInterrupt e
+            → length self.old.log.reads.faults + interrupt_limit + 1 ≤ length self.new.log.reads.faults) }
+        ensures caused { IfErr result (λ e. ReadExactErrorCaused R.remaining P.rules self.old out.new e self.new) }
         ensures whole { IsBlock self.new.block }
         ensures steps { ReadsExactly R.remaining P.rules self.old out.old result out.new self.new }
     {

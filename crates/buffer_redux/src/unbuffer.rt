@@ -1,10 +1,12 @@
 //! A reader that gives its buffer up.
-ghost use Rattle.std.specs.Prelude.{◌≡◌, ◌==◌, ℕ, ◌<◌, ◌≤◌, length, min, take, drop, Ok, OnOk, []};
+ghost use Rattle.std.specs.Prelude.{◌≡◌, ◌==◌, ℕ, ◌+◌, ◌*◌, ◌<◌, ◌≤◌, length, min, take, drop, Ok, IfErr, OnOk, []};
 ghost use Rattle.std.specs.Io.{ReadsAtMost};
 ghost use Rattle.std.specs.Io.KnownBytes.{Consumes, ReadConsumes};
+ghost use Rattle.redux_buffer.specs.Faults.{IsInterrupt, failure_count, interrupt_limit};
 ghost use Rattle.redux_buffer.specs.LogGrows.{ReadLogGrows};
 ghost use Rattle.redux_buffer.specs.StreamLog.{portion, after_read};
 ghost use Rattle.buffer_redux.specs.ReadAll.{FillsSlice};
+ghost use Rattle.buffer_redux.specs.ReadExact.{ReaderStopped};
 ghost use Rattle.buffer_redux.specs.Unbuffer.{unbuffered, unbuffer_remaining, UnbufferHands, HandsOutInOrder, UnbufferReads};
 ghost use Rattle.buffer_redux.specs.UnbufferLaws.{UnbufferHands-joins, UnbufferReads-tells};
 
@@ -136,6 +138,11 @@ impl<R: TellRead> Read for Unbuffer<R> {
             × HandsOutInOrder self.old (take count out.new) self.new }
         ensures bytes { OnOk result (Consumes (unbuffer_remaining R.remaining self.old)
             (unbuffer_remaining R.remaining self.new) out.new) }
+        ensures few { length self.new.log.reads.faults
+            ≤ length self.old.log.reads.faults + interrupt_limit * length out.new + failure_count result }
+        ensures often { IfErr result (λ e. IsInterrupt e
+            → length self.old.log.reads.faults + interrupt_limit + 1 ≤ length self.new.log.reads.faults) }
+        ensures caused { IfErr result (ReaderStopped self.old.log.reads self.new.log.reads) }
         ensures steps { FillsSlice (UnbufferReads R.remaining) (UnbufferHands R.remaining)
             self.old out.old result out.new self.new }
     {
@@ -153,6 +160,7 @@ impl<R: TellRead> FillSlice for Unbuffer<R> {
     ghost handed = { UnbufferHands R.remaining };
 
     fn read_once(&mut self, out: &mut [u8]) -> io::Result<usize>
+        ensures bound { ReadsAtMost result out.new }
         ensures read { UnbufferReads R.remaining self.old out.old result out.new self.new }
     {
         self.read(out)

@@ -180,6 +180,7 @@ impl<R: TellRead, P: ReaderPolicy> Attempt<BufReader<R, P>> for ReadingBehind {
 
     fn attempt(&self, reader: &mut BufReader<R, P>) -> io::Result<()>
         requires may { 0 < length reader.old.block.bytes }
+        ensures in_order { ReadsInOrder reader.old [] reader.new }
         ensures step { ReadsBehind R.remaining P.rules reader.old result reader.new }
     {
         reader.read_behind()

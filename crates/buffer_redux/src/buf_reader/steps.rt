@@ -172,6 +172,7 @@ impl<R: TellRead, P: ReaderPolicy> FillSlice for BufReader<R, P> {
 
     #[inline(always)]
     fn read_once(&mut self, out: &mut [u8]) -> io::Result<usize>
+        ensures bound { ReadsAtMost result out.new }
         ensures read { OneRead R.remaining P.rules self.old out.old result out.new self.new }
     {
         let _ = &self.buf;

@@ -169,6 +169,7 @@ impl<R: TellRead, P: ReaderPolicy> Attempt<BufReader<R, P>> for Filling {
     ghost step = { λ _. OneFill R.remaining P.rules };
 
     fn attempt(&self, reader: &mut BufReader<R, P>) -> io::Result<()>
+        ensures in_order { ReadsInOrder reader.old [] reader.new }
         ensures step { OneFill R.remaining P.rules reader.old result reader.new }
     {
         reader.fill()

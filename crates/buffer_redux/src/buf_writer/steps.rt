@@ -174,6 +174,7 @@ impl<W: TellWrite, P: WriterPolicy> Attempt<BufWriter<W, P>> for Rest<'_> {
 
     #[inline(always)]
     fn attempt(&self, writer: &mut BufWriter<W, P>) -> io::Result<usize>
+        ensures bound { WritesAtMost result self.now.bytes.now }
         ensures step { OneWrite W.log W.trace P.rules self.now.bytes.now writer.old result writer.new }
     {
         let _ = &writer.buf;

@@ -1,9 +1,10 @@
 //! A writer of lines that tells where a line isn't sent.
-ghost use Rattle.std.specs.Prelude.{◌≡◌, IfSome, OnOk};
+ghost use Rattle.std.specs.Prelude.{◌≡◌, ◌<◌, [], ◌++◌, length, Ok, IfSome, OnOk};
 ghost use Rattle.std.specs.Io.{WritesAtMost};
 ghost use Rattle.std.specs.Io.KnownBytes.{Appends, Keeps, WriteAppends};
 ghost use Rattle.redux_buffer.specs.Block.{IsBlock};
-ghost use Rattle.buffer_redux.specs.BufWriter.{writer_contents, AllAlong, WasFlushed, WriterKeeps, Writes};
+ghost use Rattle.redux_buffer.specs.StreamLog.{portion};
+ghost use Rattle.buffer_redux.specs.BufWriter.{writer_contents, AllAlong, EmptyWriteCaused, WasFlushed, WriteErrorCaused, WriterKeeps, Writes, WritesInOrder, WritesSteadily};
 ghost use Rattle.buffer_redux.specs.LineWriter.{line_rules, SendsLines, ThenSendsLines};
 ghost use Rattle.buffer_redux.specs.ReadUntil.{Lacks};
 ghost use Rattle.buffer_redux.specs.WriteAll.{WritesAll};
@@ -104,6 +105,11 @@ impl<W: TellWrite> Write for LineSender<W> {
     fn write(&mut self, bytes: &[u8]) -> io::Result<usize>
         ensures bound { WritesAtMost result bytes.now }
         ensures bytes { WriteAppends (writer_contents self.old) (writer_contents self.new) result bytes.now }
+        ensures in_order { WritesInOrder self.old (portion bytes.now result) self.new }
+        ensures caused { WriteErrorCaused line_rules self.old bytes.now result self.new }
+        ensures empty { result ≡ Ok 0 → 0 < length bytes.now
+            → EmptyWriteCaused line_rules self.old bytes.now self.new }
+        ensures steadily { WritesSteadily line_rules self.old (length bytes.now) result self.new }
         ensures steps { Writes line_rules self.old bytes.now result self.new }
         ensures keeps { WriterKeeps W.log W.trace line_rules self.old self.new }
     {
@@ -125,6 +131,9 @@ impl<W: TellWrite> Write for LineSender<W> {
     }
 
     fn flush(&mut self) -> io::Result<()>
+        ensures all { OnOk result ((self.new.block.bytes ≡ [])
+            × (self.new.log.writes.received ≡ self.old.log.writes.received ++ self.old.block.bytes)
+            × (self.new.log.writes.flushed ≡ self.new.log.writes.received)) }
         ensures bytes { Keeps (writer_contents self.old) (writer_contents self.new) }
         ensures flushed { WasFlushed W.log W.trace self.old result self.new }
     {

@@ -6,7 +6,7 @@ use Rattle.buffer_redux.specs.Unbuffer.{UnbufferHands, UnbufferReads}
 use Rattle.buffer_redux.specs.UnbufferLaws.{UnbufferHands-joins, UnbufferHands-none, UnbufferReads-tells}
 use Rattle.buffer_redux.proofs.ReadAll.{ended_all, turned_none}
 use Rattle.buffer_redux.proofs.Testing.{zero_of}
-use Rattle.buffer_redux.proofs.Unbuffering.{all_out, unbuffer_read}
+use Rattle.buffer_redux.proofs.Unbuffering.{all_out, unbuffer_caused, unbuffer_few, unbuffer_often, unbuffer_read}
 use Rattle.buffer_redux.proofs.unbuffer.UnbufferRead.read_exact.Goals as goal
 use Rattle.buffer_redux.proofs.unbuffer.UnbufferRead.read_exact.Goals.{After-fill_on}
 
@@ -35,3 +35,15 @@ returns-clause-in_order g c =
 pub returns-clause-bytes : goal.returns-clause-bytes
 returns-clause-bytes g c =
     (all_out _ _ _ _ _ _ (fills g (goal.at.returns-clause-bytes g c).After-fill_on)).1
+
+pub returns-clause-few : goal.returns-clause-few
+returns-clause-few g c =
+    unbuffer_few _ _ _ _ _ _ (fills g (goal.at.returns-clause-few g c).After-fill_on)
+
+pub returns-clause-often : goal.returns-clause-often
+returns-clause-often g c =
+    unbuffer_often _ _ _ _ _ _ (fills g (goal.at.returns-clause-often g c).After-fill_on)
+
+pub returns-clause-caused : goal.returns-clause-caused
+returns-clause-caused g c =
+    unbuffer_caused _ _ _ _ _ _ (fills g (goal.at.returns-clause-caused g c).After-fill_on)

@@ -4,6 +4,7 @@ use Rattle.buffer_redux.proofs.buf_writer.steps.RestAttemptBufWriter.attempt.Goa
 pub returns : goal.returns
 returns g c =
     let w = c.write.ensures in record {
+      bound = w.bound;
       step = record {
         bound = w.bound;
         steps = w.steps;
