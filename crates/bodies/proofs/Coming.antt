@@ -1,8 +1,10 @@
--- Payload that came where none could be handed out of what was buffered came from the stream.
-use Rattle.std.proofs.Common.{◌≡◌, ℕ, ◌<◌, inl, inr, List, [], ◌∷◌, ◌++◌, length, min, take, Option, Ok, ap, subst, ◌∙◌, arith, append_assoc, length-append, length-drop, length-take-le}
+-- What was taken where none could be handed out of what was buffered came from the stream.
+use Rattle.std.proofs.Common.{◌≡◌, ℕ, ◌<◌, inl, inr, List, [], ◌∷◌, ◌++◌, length, min, take, Option, Result, Ok, ap, subst, ◌∙◌, arith, append_assoc, length-append, length-drop, length-take-le}
 use Rattle.std.proofs.lemmas.Bool.{cases_lt}
 use Rattle.body_reader.specs.Coding.{IsBody}
+use Rattle.body_reader.specs.declared.error.BodyError.{BodyError}
 use Rattle.chunked.specs.CodingLaws.{chunked_lawful, follows}
+use Rattle.chunked.specs.declared.error.Malformed.{Malformed}
 use Rattle.bodies.specs.Words.{IsBodyReader, ReadsPayload, chunked, std_read_rules}
 use Rattle.bodies.specs.Decoding.{ChunkedState, NoneBuffered}
 
@@ -13,10 +15,11 @@ begins [] back later byte same some = absurd (omega (arith, some))
 begins (first ∷ more) back later byte same some = (more, ap (λ b. b ∷ more) (cc same))
 
 module _ {R : Type 0} (remaining : R → Option (List ℕ)) (s m : ChunkedState R) (is : IsBodyReader (chunked s.coding.0) s)
-    (out : List ℕ) (n : ℕ) (p : ReadsPayload remaining std_read_rules (chunked s.coding.0) s out (Ok n) m) (some : 0 < n) where
+    (out : List ℕ) where
   -- bytes were taken for it
-  taken_some : 0 < length p.went.wire
-  taken_some = elim (cases_lt 0 s.known) [
+  pub taken_some : (n : ℕ) (p : ReadsPayload remaining std_read_rules (chunked s.coding.0) s out (Ok n) m) → 0 < n
+      → 0 < length p.went.wire
+  taken_some n p some = elim (cases_lt 0 s.known) [
     | inl known ↦
         let gone = p.consumed known some in
         let order = p.went.along.in_order in
@@ -46,49 +49,41 @@ module _ {R : Type 0} (remaining : R → Option (List ℕ)) (s m : ChunkedState 
         )
   ]
 
-  module _ (same : m.reader.log ≡ s.reader.log) where
-    got_none : length p.went.along.in_order.got ≡ 0
-    got_none = omega (
-      arith,
-      ap (λ l. length l.reads.given) same,
-      ap length p.went.along.in_order.given,
-      length-append s.reader.log.reads.given p.went.along.in_order.got,
-    )
-
+  module _ (answer : Result ℕ (BodyError Malformed))
+      (p : ReadsPayload remaining std_read_rules (chunked s.coding.0) s out answer m) (some : 0 < length p.went.wire) where
     -- some body begins with what was taken
     onward : (rest : List ℕ) × (payload : List ℕ) × IsBody (chunked s.coding.0) (m.taken ++ rest) payload
     onward =
         let (rest, payload, completes) = (chunked_lawful s.coding.0).alive m.place p.whole.place in
         (rest, _, p.whole.leads.onward rest payload (follows rest) completes)
 
-    none_came : NoneBuffered s → ⊥
-    none_came (inl whole) = omega (
+    -- bytes that were taken, where none could be handed out of what was buffered, came from the stream
+    pub some_given : NoneBuffered s → length s.reader.log.reads.given < length m.reader.log.reads.given
+    some_given (inl whole) = absurd (omega (
       arith,
-      taken_some,
+      some,
       ap (λ d. length d.taken) (p.idle (inl whole)),
       ap length p.went.taken,
       length-append s.taken p.went.wire,
-    )
-    none_came (inr (inl none)) =
+    ))
+    some_given (inr (inl none)) =
         let order = p.went.along.in_order in
         omega (
           arith,
-          taken_some,
-          got_none,
+          some,
           ap length none,
           ap length order.equal,
+          ap length order.given,
+          length-append s.reader.log.reads.given order.got,
           length-append p.went.wire m.reader.block.bytes,
           length-append s.reader.block.bytes order.got,
         )
-    none_came (inr (inr (why, breaks))) =
+    some_given (inr (inr (why, breaks))) =
         let order = p.went.along.in_order in
         let (more, first) = begins p.went.wire m.reader.block.bytes (breaks.later ++ order.got) breaks.byte
-        (order.equal ∙ ap (λ l. l ++ order.got) breaks.next) taken_some in
+        (order.equal ∙ ap (λ l. l ++ order.got) breaks.next) some in
         let (rest, payload, body) = onward in
-        breaks.none (more ++ rest) payload
+        absurd (breaks.none (more ++ rest) payload
         (subst (λ l. IsBody (chunked s.coding.0) l payload)
         (ap (λ l. l ++ rest) (p.went.taken ∙ ap (λ l. s.taken ++ l) first)
-        ∙ append_assoc s.taken (breaks.byte ∷ more) rest) body)
-
-  pub asked_stream : NoneBuffered s → ¬ (m.reader.log ≡ s.reader.log)
-  asked_stream none same = none_came same none
+        ∙ append_assoc s.taken (breaks.byte ∷ more) rest) body))

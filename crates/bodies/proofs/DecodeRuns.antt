@@ -188,5 +188,5 @@ refused limits read read' written written' e p = rw (p.read_same, p.written_same
     record { place = Line; part = record { leads = Leads-none (chunked limits) Line []; is_place = tt } },
     inr (rw (p.read_same, p.written_same) at p),
   );
-  promptly = RunsPromptly-none (IsDue limits) 1 2 read written;
+  promptly = RunsPromptly-none (IsDue limits) 1 read written;
 })

@@ -1,5 +1,5 @@
 -- What the calls of a filter of payload do.
-use Rattle.std.proofs.Common.{◌≡◌, ℕ, ◌+◌, ◌<◌, ◌≤◌, ◌⊎◌, inl, inr, List, [], ◌∷◌, ◌++◌, length, if◌then◌else◌, nat_lt, take, true, false, Bool, Option, Result, Ok, Err, OnErr, refl, sym, ap, subst, ◌∙◌, arith, append-nil, length-take-le}
+use Rattle.std.proofs.Common.{◌≡◌, ℕ, ◌+◌, ◌<◌, ◌≤◌, ◌⊎◌, inl, inr, List, [], ◌∷◌, ◌++◌, length, if◌then◌else◌, nat_lt, take, true, false, Bool, Option, Result, Ok, Err, OnErr, refl, sym, ap, subst, ◌∙◌, arith, append-nil, length-append, length-take-le}
 use Rattle.std.proofs.lemmas.List.Elements.{All-cons, All-nil}
 use Rattle.std.proofs.lemmas.List.{nil_from_length, with_items_is}
 use Rattle.std.specs.List.{concat}
@@ -21,7 +21,8 @@ use Rattle.chunked.specs.declared.error.Malformed.{Malformed}
 use Rattle.chunked.specs.declared.place.Place.TheVariants.{Line}
 use Rattle.forward.specs.declared.error.AskError.{AskError}
 use Rattle.forward.specs.declared.error.AskError.TheVariants as ask
-use Rattle.forward.specs.Filter.{FailedToRead}
+use Rattle.forward.specs.Filter.{FailedToRead, SomeCame}
+use Rattle.forward.specs.Streams.{came}
 use Rattle.forward.specs.Target.{bytes_taken}
 use Rattle.programs.specs.TargetLaws.{TakesAll-not_passed, TakesAll-passed, WasFlushed-sent, WasFlushed-writes}
 use Rattle.bodies.specs.Words.{Error, WasFlushed, Buffered, std_read_rules, StreamLog, StdPolicy, BodyWent, IsBodyOfChunks, IsBodyReader, TakesAll, TookWholeBody, LooksBehind, ReadsPayload, chunked, handed_of, taken_count, AskAnswers, FilterAsks, FilterFlushes, FilterRules, FilterPasses, StaysOpen, taken_more, target_of, WritesInOrder, InputFault}
@@ -31,8 +32,8 @@ use Rattle.bodies.specs.Decoding as Source
 use Rattle.bodies.specs.DecodingLaws.{hands_held, hands_none, none_held}
 use Rattle.bodies.specs.FiltersLaws.{fault_gives}
 use Rattle.bodies.specs.declared.decoding.Decoding.{Decoding}
-use Rattle.bodies.proofs.Coming.{asked_stream}
-use Rattle.bodies.proofs.Passing.{passed_none, passed_some}
+use Rattle.bodies.proofs.Coming.{some_given, taken_some}
+use Rattle.bodies.proofs.Passing.{passed_none, passed_some, wire_some}
 
 -- bytes that settle nothing are none
 open_none : {R : Type 0} (d : ChunkedState R) (bytes : List ℕ) → IsOpen (chunked d.coding.0) d.place bytes → bytes ≡ []
@@ -234,6 +235,7 @@ module _ {R W : Type 0} (remaining : R → Option (List ℕ)) (s : Decoding R W)
       sent = λ sent. sent;
       asks = over;
       once = record { once = once; quiet = λ closed. absurd closed; closed = λ closed. closed };
+      grows = over.grows;
       looks = elim answer as (λ a. OnErr a (Unit {0})) [ Ok more ↦ tt | Err why ↦ tt ];
       answers = answers;
     }
@@ -264,6 +266,16 @@ module _ {R W : Type 0} (remaining : R → Option (List ℕ)) (s : Decoding R W)
       here : IsBodyReader (chunked m.coding.0) m
       here = subst (λ c. IsBodyReader (chunked c.0) m) (sym p.went.coding) p.whole
 
+    some_came : (t : ChunkedState R) (n : ℕ) → Source.AsksPromptly s.source t
+        → came s.source.reader.log.reads < came t.reader.log.reads → SomeCame rules s (asked t n)
+    some_came t n over more = record {
+      asks = elim over.asked [
+        | inl same ↦ absurd (omega (arith, more, ap (λ l. came l.reads) same))
+        | inr ask ↦ ask.some
+      ];
+      more = more;
+    }
+
     pub asked_more : NoneBuffered s.source → (n : ℕ)
         → ReadsPayload remaining std_read_rules (chunked s.source.coding.0) s.source out (Ok n) m → 0 < n
         → FilterAsks rules s (Ok true) (asked m n)
@@ -274,7 +286,12 @@ module _ {R W : Type 0} (remaining : R → Option (List ℕ)) (s : Decoding R W)
           some,
           gave.faults,
           inl (record { zero_reads = gave.zero_reads; give = omega (arith, gave.asks, ap length gave.faults) }),
-          asked_stream remaining s.source m ready.whole out n p some lacks,
+          some_came m n (over (Ok n) p) (omega (
+            arith,
+            gave.zero_reads,
+            some_given remaining s.source m ready.whole out (Ok n) p (taken_some remaining s.source m ready.whole out n p some)
+                lacks,
+          )),
         )
 
     -- the stream failed, and bytes came in this ask or none
@@ -283,30 +300,40 @@ module _ {R W : Type 0} (remaining : R → Option (List ℕ)) (s : Decoding R W)
         → TellsOnce remaining std_read_rules (chunked s.source.coding.0) s.source.reader s.source.place 0 m.reader m.place
         → (t : ChunkedState R) → most_wanted t ≡ most_wanted m → rules.waits (asked t s.held)
         → FailedToRead rules e s (asked t s.held) → StaysOpen rules s (asked t s.held)
+        → (true ≡ nat_lt (taken_count s.source) (taken_count m) → SomeCame rules s (asked t s.held))
         → AskAnswers rules s (Err (if came then ask.IoBehind e else ask.Io e)) (asked t s.held)
-    faulted e true is went tells t same waits fault still =
-        (waits, fault, still, omega (arith, same, passed_some remaining s.source m went tells is))
-    faulted e false is went tells t same waits fault still =
+    faulted e true is went tells t same waits fault still some =
+        (waits, fault, still, omega (arith, same, passed_some remaining s.source m went tells is), some is)
+    faulted e false is went tells t same waits fault still some =
         (waits, fault, still, same ∙ passed_none remaining s.source m went tells is)
 
+    -- where bytes were taken in it, bytes came
+    came_given : NoneBuffered s.source → (answer : Result ℕ (BodyError Malformed))
+        → ReadsPayload remaining std_read_rules (chunked s.source.coding.0) s.source out answer m
+        → true ≡ nat_lt (taken_count s.source) (taken_count m)
+        → length s.source.reader.log.reads.given < length m.reader.log.reads.given
+    came_given lacks answer p came =
+        some_given remaining s.source m ready.whole out answer p (wire_some remaining s.source m p.went came) lacks
+
     -- the ask for a piece failed
-    pub asked_failed : (e : BodyError Malformed) (came : Bool) → came ≡ nat_lt (taken_count s.source) (taken_count m)
+    pub asked_failed : NoneBuffered s.source → (e : BodyError Malformed) (came : Bool)
+        → came ≡ nat_lt (taken_count s.source) (taken_count m)
         → ReadsPayload remaining std_read_rules (chunked s.source.coding.0) s.source out (Err e) m
         → FilterAsks rules s (Err (ask_error came e)) (asked m s.held)
-    asked_failed (body.Wrong why right) came is p =
+    asked_failed lacks (body.Wrong why right) came is p =
         let answer = Err (body.Wrong why right) in
         let gave = p.answers.1 in
         let breaks = breaks_at m (here answer p) why (rw p.went.coding p.answers.2.name) in
         asks_none m p.went (here answer p) (over answer p) (omega (arith, gave.zero_reads))
         (Err (ask_error came (body.Wrong why right)))
         ((none, (breaks, p.answers.0)), gave.faults)
-    asked_failed (body.Truncated right) came is p =
+    asked_failed lacks (body.Truncated right) came is p =
         let answer = Err (body.Truncated right) in
         let met = p.answers.1 in
         let found = early_none m (subst (λ c. EndsEarly (chunked c.0) m) (sym p.went.coding) p.answers.2) in
         asks_none m p.went (here answer p) (over answer p) (omega (arith, met.1)) (Err (ask_error came (body.Truncated right)))
         ((none, (found.0, found.1, omega (arith, met.1), p.answers.0)), met.0)
-    asked_failed (body.Io e) came is p =
+    asked_failed lacks (body.Io e) came is p =
         let answer = Err (body.Io e) in
         let fault = p.answers.0 in
         let found = early_none m (subst (λ c. EndsEarly (chunked c.0) m) (sym p.went.coding) p.answers.1) in
@@ -314,10 +341,10 @@ module _ {R W : Type 0} (remaining : R → Option (List ℕ)) (s : Decoding R W)
         (faulted e came is p.went p.tells m refl (none, found.1) fault.0 (inl (record {
           zero_reads = fault.1;
           give = fault_gives Such s.source.reader m.reader (over answer p) e fault.0;
-        })))
+        })) (λ taken. some_came m s.held (over answer p) (omega (arith, fault.1, came_given lacks answer p taken))))
 
     -- the body ended, and then it was asked whether more follows
-    module _ (k : ℕ) (nothing : k ≡ 0)
+    module _ (lacks : NoneBuffered s.source) (k : ℕ) (nothing : k ≡ 0)
         (p : ReadsPayload remaining std_read_rules (chunked s.source.coding.0) s.source out (Ok k) m) (t : ChunkedState R) where
       gave : EachGave s.source.reader m.reader
       gave = p.answers.1
@@ -378,4 +405,11 @@ module _ {R W : Type 0} (remaining : R → Option (List ℕ)) (s : Decoding R W)
           (inl (record {
             zero_reads = failed.1 ∙ gave.zero_reads;
             give = fault_gives Such s.source.reader t.reader (over_on (Err e) looks) e fault;
-          })))
+          })) (λ taken. some_came t s.held (over_on (Err e) looks) (omega (
+            arith,
+            failed.1,
+            gave.zero_reads,
+            came_given lacks (Ok k) p taken,
+            ap length looks.went.along.grows.given.equal,
+            length-append m.reader.log.reads.given looks.went.along.grows.given.more,
+          ))))

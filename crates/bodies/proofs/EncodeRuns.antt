@@ -232,5 +232,5 @@ refused read read' written written' e p =
     rw (p.read_same, p.written_same) (record {
       ran = (moved, unended moved none_yet (omega arith), inr (rw (p.read_same, p.written_same) at p));
       offers = inl refl;
-      promptly = RunsPromptly-none IsDue 1 1 read written;
+      promptly = RunsPromptly-none IsDue 1 read written;
     })

@@ -311,6 +311,7 @@ module _ {R W : Type 0} (remaining : R → Option (List ℕ)) (tells : W → Str
             offer = fill_offers s.source t filled fills held lacks some ∙ ready.capacity;
           };
           once = record { once = quiet; quiet = λ closed. absurd closed; closed = λ closed. closed };
+          grows = asked.grows;
           looks = elim answer as (λ a. OnErr a (Unit {0})) [ Ok more ↦ tt | Err why ↦ tt ];
           answers = answers;
         }
@@ -326,7 +327,7 @@ module _ {R W : Type 0} (remaining : R → Option (List ℕ)) (tells : W → Str
         let some : 0 < length t.block.bytes = grind (arith, nat_tests) in
         let order = fills.in_order in
         let quiet = none_where_shown std_read_rules ReadsWhenEmpty-std s.source t a fills.filled some in
-        let told : ¬ (t.log ≡ s.source.log) = λ same. omega (
+        let came : length s.source.log.reads.given < length t.log.reads.given = omega (
           arith,
           some,
           ap length lacks,
@@ -334,9 +335,9 @@ module _ {R W : Type 0} (remaining : R → Option (List ℕ)) (tells : W → Str
           ap length order.equal,
           length-append s.source.log.reads.given order.got,
           length-append s.source.block.bytes order.got,
-          ap (λ l. length l.reads.given) same,
         ) in
-        empty_asked (Ok a) fills told (omega (arith, quiet, some, ap length fills.caused)) (omega (arith, quiet)) (Ok true) (
+        empty_asked (Ok a) fills (λ same. omega (arith, came, ap (λ l. length l.reads.given) same))
+        (omega (arith, quiet, some, ap length fills.caused)) (omega (arith, quiet)) (Ok true) (
           some,
           fills.caused,
           inl (record {
@@ -347,7 +348,13 @@ module _ {R W : Type 0} (remaining : R → Option (List ℕ)) (tells : W → Str
               ap length fills.caused,
             );
           }),
-          told,
+          record {
+            asks = elim (fill_asked s.source t (Ok a) fills).asked [
+              | inl same ↦ absurd (omega (arith, came, ap (λ l. length l.reads.given) same))
+              | inr over ↦ over.some
+            ];
+            more = omega (arith, came, quiet);
+          },
         )
 
     -- a read failed

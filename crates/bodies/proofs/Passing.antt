@@ -121,3 +121,14 @@ module _ {R : Type 0} (remaining : R → Option (List ℕ)) (s m : ChunkedState 
       ((chunked s.coding.0).between s.place) ((chunked s.coding.0).between m.place) (length went.wire) _ _ refl refl longer
       (λ none. ap (chunked s.coding.0).between (passed.none (omega (arith, none, wired))))
       (lt_false (taken_count s) (taken_count m) came))
+
+-- where more was taken some bytes were
+pub wire_some : {R : Type 0} (remaining : R → Option (List ℕ)) (s m : ChunkedState R) {payload : List ℕ}
+    (went : BodyWent remaining std_read_rules (chunked s.coding.0) s payload m)
+    → true ≡ nat_lt (taken_count s) (taken_count m) → 0 < length went.wire
+wire_some remaining s m went came = omega (
+  arith,
+  lt_true (taken_count s) (taken_count m) came,
+  ap length went.taken,
+  length-append s.taken went.wire,
+)

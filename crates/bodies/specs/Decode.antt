@@ -58,8 +58,8 @@ DecodeRan limits read read' written written' (Err (Io e)) =
     (m : Moved read read' written written') × IsDue limits m.taken (m.sent ++ m.unsent)
     × (OverCount e (length (m.sent ++ m.unsent)) read read' written written' ⊎ RefusedBeforeCalls e read read' written written')
 
--- all that a run of `decode` promises: the writer was flushed once for each ask of the reader at most, and twice more
+-- all that a run of `decode` promises: the writer was flushed once for each ask of the reader at most, and once more
 pub record DecodesBody (limits : Limits) (read read' written written' : StreamLog)
     (answer : Result (Unit {0}) (RunError InputFault)) : Type 0 where
   pub ran : DecodeRan limits read read' written written' answer
-  pub promptly : RunsPromptly (IsDue limits) (failure_count answer) 2 read read' written written'
+  pub promptly : RunsPromptly (IsDue limits) (failure_count answer) read read' written written'

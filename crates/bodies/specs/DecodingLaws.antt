@@ -6,7 +6,6 @@ use Rattle.std.proofs.lemmas.List.Elements.{All-append, All-nil}
 use Rattle.buffer_redux.specs.WriterLaws.{WritesInOrder-joins, WritesInOrder-none}
 use Rattle.body_reader.specs.Between.{LeavesRoom}
 use Rattle.body_reader.specs.BodyReaderLaws.{BodyWent-joins, BodyWent-none}
-use Rattle.forward.specs.ForwardLaws.{CountsAsks}
 use Rattle.bodies.specs.Words.{std_read_rules, StdPolicy, BodyWent, chunked, handed_of, AsksSent, FilterRules, NeverGaveNothing, IsLawful, Moves, StaysOpen, AllSent, sent_all, taken_more, InputFault}
 use Rattle.bodies.specs.Decode.{IsDue}
 use Rattle.bodies.specs.Decoding.{AsksPromptly, HandsPayloadPieces, PayloadEnds, TakesPayload, decoding_rules, held_payload}
@@ -111,10 +110,6 @@ module _ {R W : Type 0} (remaining : R → Option (List ℕ)) where
     asks_sent = λ first s t p fresh moves still lacks.
         asks_sent first s t p fresh moves (still_open first s still) lacks.0;
   }
-
-  -- the stream is asked, or its log stays
-  pub counts_asks : CountsAsks (decoding_rules {R = R} {W = W} remaining)
-  counts_asks s t asks = elim asks.asked [ inl same ↦ inl same | inr over ↦ inr over.some ]
 
 -- the policy leaves the buffer as it is
 pub std_leaves : LeavesRoom {Q = StdPolicy} std_read_rules

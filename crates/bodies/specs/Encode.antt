@@ -91,4 +91,4 @@ EncodeRan read read' written written' (Err (Wrong fault)) = ⊥
 pub record Encodes (read read' written written' : StreamLog) (answer : Result (Unit {0}) (RunError InputFault)) : Type 0 where
   pub ran : EncodeRan read read' written written' answer
   pub offers : OffersBuffer false 8192 read read'
-  pub promptly : RunsPromptly IsDue (failure_count answer) 1 read read' written written'
+  pub promptly : RunsPromptly IsDue (failure_count answer) read read' written written'

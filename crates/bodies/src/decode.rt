@@ -18,7 +18,7 @@ use std::alloc::Global;
 /// payload in what is right of it is sent then. What follows the body is left, and the run says so.
 ///
 /// Nothing is held back: where the reader is asked, the payload in all that it gave was sent and flushed, also before it is asked
-/// whether something follows. The writer is flushed once for each ask at most, and twice more. Once the reader has given nothing
+/// whether something follows. The writer is flushed once for each ask at most, and once more. Once the reader has given nothing
 /// it isn't called again. Both streams come back, also after a fault.
 pub fn decode<R: TellRead, W: TellWrite>(
     alloc: Global,

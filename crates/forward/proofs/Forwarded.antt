@@ -7,14 +7,14 @@ use Rattle.forward.specs.Filter.{AsksOnce, FilterRules, IsLawful}
 use Rattle.forward.specs.Flushes.{FlushesSend}
 use Rattle.forward.specs.Forward.{Forwards, flushed_last}
 use Rattle.forward.specs.Link.{Ask, EndsInterrupted, Goes, IsPrompt, Linked}
-use Rattle.forward.specs.Steps.{AlsoAsked, AskedFrom, AskedTo, ForwardsNext, StepAnswers}
+use Rattle.forward.specs.Steps.{AskedFrom, FlushesPerAsk, ForwardsNext, ReadsFew, StepAnswers}
 use Rattle.forward.specs.Target.{bytes_taken}
 use Rattle.forward.specs.StreamsLaws.{MetNoFault-none}
 use Rattle.forward.specs.declared.error.Cause.{Cause}
 use Rattle.forward.specs.declared.error.Cause.TheVariants.{Count}
 use Rattle.forward.proofs.Between.{Paced, SoFar}
-use Rattle.forward.proofs.Forwarding.{answers_on, goes_on, once_on, not_given_up_on}
-use Rattle.forward.proofs.Moving.{AsksOnce-none, Goes-none, Goes-weaker, Moves-none, Moves-on, none_forwarded, StaysOpen-joins, StaysOpen-none}
+use Rattle.forward.proofs.Forwarding.{answers_on, goes_on, once_on, not_given_up_on, per_ask_on, reads_on}
+use Rattle.forward.proofs.Moving.{AsksOnce-none, Goes-none, Moves-none, Moves-on, none_forwarded, StaysOpen-joins, StaysOpen-none}
 
 module _ {T W : Type 0} (rules : FilterRules T W) (lawful : IsLawful rules) where
   module _ (first : Linked T) (fresh : rules.fresh first.filter) where
@@ -23,9 +23,11 @@ module _ {T W : Type 0} (rules : FilterRules T W) (lawful : IsLawful rules) wher
 
     pub so_far_none : rules.ready first.filter → SoFar rules Prompt 0 first first
     so_far_none ready = record {
-      goes = Goes-none rules (AlsoAsked rules Prompt) first;
+      goes = Goes-none rules Prompt first;
       not_given_up = All-nil (λ turn. ¬ (EndsInterrupted rules turn));
       once = AsksOnce-none rules first.filter first.filter refl (λ closed. closed);
+      reads = omega arith;
+      per_ask = omega arith;
       still = StaysOpen-none rules first.filter first.filter refl;
       forwarded = none_forwarded rules lawful first.filter first.filter (Moves-none rules lawful first.filter);
       met = MetNoFault-none (rules.read first.filter) (rules.target first.filter).log;
@@ -90,11 +92,17 @@ module _ {T W : Type 0} (rules : FilterRules T W) (lawful : IsLawful rules) wher
           asked.asks
 
       module _ (answer : Result Bool (Cause W)) (next : ForwardsNext rules s answer t) where
-        abbrev all_goes : Goes rules (AskedTo rules answer Prompt) (option_map_or flushed_last (result_err answer) 0) first t
+        abbrev all_goes : Goes rules Prompt (option_map_or flushed_last (result_err answer) 0) first t
         all_goes = goes_on rules lawful Prompt count first s t before prompt_of answer next
 
         all_once : AsksOnce rules first.filter t.filter
         all_once = once_on rules lawful Prompt count first s t before prompt_of answer next
+
+        all_reads : ReadsFew rules answer first.filter t.filter
+        all_reads = reads_on rules lawful Prompt count first s t before prompt_of answer next
+
+        all_per_ask : FlushesPerAsk rules answer first.filter t.filter
+        all_per_ask = per_ask_on rules lawful Prompt count first s t before prompt_of answer next
 
         all_answers : StepAnswers rules count first.filter answer t.filter
         all_answers = answers_on rules lawful Prompt count first s t before prompt_of answer next
@@ -106,6 +114,8 @@ module _ {T W : Type 0} (rules : FilterRules T W) (lawful : IsLawful rules) wher
             goes = all_goes (Ok true) next;
             not_given_up = not_given_up_on rules lawful Prompt count first s t before prompt_of (Ok true) next;
             once = all_once (Ok true) next;
+            reads = all_reads (Ok true) next;
+            per_ask = all_per_ask (Ok true) next;
             still = answers.2;
             forwarded = answers.0;
             met = answers.1;
@@ -116,6 +126,8 @@ module _ {T W : Type 0} (rules : FilterRules T W) (lawful : IsLawful rules) wher
       all_forwarded next = record {
         goes = all_goes (Ok false) next;
         once = (all_once (Ok false) next).once;
+        reads = all_reads (Ok false) next;
+        per_ask = all_per_ask (Ok false) next;
         flushes = flushes_on (Ok false) next;
         ready = next.ready;
         answers = all_answers (Ok false) next;
@@ -126,6 +138,8 @@ module _ {T W : Type 0} (rules : FilterRules T W) (lawful : IsLawful rules) wher
       stopped_by cause next = record {
         goes = all_goes (Err cause) next;
         once = (all_once (Err cause) next).once;
+        reads = all_reads (Err cause) next;
+        per_ask = all_per_ask (Err cause) next;
         flushes = flushes_on (Err cause) next;
         ready = next.ready;
         answers = all_answers (Err cause) next;
@@ -135,8 +149,10 @@ module _ {T W : Type 0} (rules : FilterRules T W) (lawful : IsLawful rules) wher
         → (most : ℕ) → count ≡ most → 2 ^ 64 ≤ most + 1
         → Forwards rules first (Err (record { count = most; cause = Count })) s
     counted_all count s before paced most is large = record {
-      goes = Goes-weaker rules (AlsoAsked rules Prompt) Prompt (λ ask is. is.0) 0 first s before.goes;
+      goes = before.goes;
       once = before.once.once;
+      reads = omega (arith, before.reads);
+      per_ask = omega (arith, before.per_ask);
       flushes = paced.send;
       ready = before.ready;
       answers = (

@@ -8,16 +8,16 @@ use Rattle.redux_buffer.specs.Faults.{MetInterrupts, OnlyInterrupts, OnlyInterru
 use Rattle.forward.specs.Filter.{AsksOnce, FilterRules, IsLawful, Moves, StaysOpen}
 use Rattle.forward.specs.Forward.{NoneFailed, flushed_last}
 use Rattle.forward.specs.Link.{Ask, EndsInterrupted, Goes, LinkFlushes, LinkPasses, Linked, NoneGaveUp, NotAsked}
-use Rattle.forward.specs.Steps.{AlsoAsked, AskedFrom, AskedTo, ForwardsNext, GivesUp, GoesAhead, IsQuiet, OnTrue, ReadsOnlyInterrupted, StepAnswers, TakesTurn}
+use Rattle.forward.specs.Steps.{AskedFrom, FlushesPerAsk, ForwardsNext, GivesUp, GoesAhead, IsQuiet, OnTrue, ReadsFew, ReadsOnlyInterrupted, StepAnswers, TakesTurn}
 use Rattle.forward.specs.Streams.{ReadGaveUp}
-use Rattle.forward.specs.StreamsLaws.{MetNoFault-joins, ReadFailed-after, WriteGaveUp-after, WriteGaveUp-so}
+use Rattle.forward.specs.StreamsLaws.{FewReadFaults-none, MetNoFault-joins, ReadFailed-after, WriteGaveUp-after, WriteGaveUp-so}
 use Rattle.forward.specs.Target.{FlushesOnce, bytes_taken, failure_count}
 use Rattle.forward.specs.declared.error.AskError.{AskError}
 use Rattle.forward.specs.declared.error.AskError.TheVariants as asked
 use Rattle.forward.specs.declared.error.Cause.{Cause}
 use Rattle.forward.specs.declared.error.Cause.TheVariants.{Wrong, Read, Write, Count}
 use Rattle.forward.proofs.Between.{SoFar}
-use Rattle.forward.proofs.Moving.{AsksOnce-joins, AsksOnce-none, first_joins, forwarded_joins, forwarded_on, Goes-joins, Goes-turn, Goes-unasked, Goes-weaker, Moves-on, none_first, none_forwarded, StaysOpen-joins, StaysOpen-none, also_asked, longer, so_asked}
+use Rattle.forward.proofs.Moving.{AsksOnce-joins, AsksOnce-none, first_joins, forwarded_joins, forwarded_on, Goes-joins, Goes-turn, Goes-unasked, Goes-weaker, Moves-on, none_first, none_forwarded, StaysOpen-joins, StaysOpen-none, longer}
 
 module _ {T W : Type 0} (rules : FilterRules T W) where
   -- the writer was flushed once at most
@@ -90,13 +90,11 @@ module _ {T W : Type 0} (rules : FilterRules T W) where
       not_given_up (Err cause) turns next = tt
 
       module _ (answer : Result Bool (Cause W)) (next : ForwardsNext rules s answer t) where
-        abbrev pub goes_on : Goes rules (AskedTo rules answer Such) (option_map_or flushed_last (result_err answer) 0) first t
+        abbrev pub goes_on : Goes rules Such (option_map_or flushed_last (result_err answer) 0) first t
         goes_on =
             let more = option_map_or flushed_last (result_err answer) 0 in
-            Goes-joins rules (AskedTo rules answer Such) (AlsoAsked rules Such) (also_asked rules Such answer) more
-            first s t before.goes before.not_given_up
-            (Goes-weaker rules (AskedTo rules answer (AskedFrom rules s.filter)) (AskedTo rules answer Such)
-            (so_asked rules (AskedFrom rules s.filter) Such so answer) more s t next.goes)
+            Goes-joins rules Such more first s t before.goes before.not_given_up
+            (Goes-weaker rules (AskedFrom rules s.filter) Such so more s t next.goes)
 
         -- no turn gave up where a payload came
         pub not_given_up_on : OnTrue rules answer (NoneGaveUp rules goes_on.turns.turns)
@@ -104,6 +102,12 @@ module _ {T W : Type 0} (rules : FilterRules T W) where
 
         pub once_on : AsksOnce rules first.filter t.filter
         once_on = AsksOnce-joins rules first.filter s.filter t.filter before.once before.still next.once
+
+        pub reads_on : ReadsFew rules answer first.filter t.filter
+        reads_on = omega (arith, before.reads, next.reads)
+
+        pub per_ask_on : FlushesPerAsk rules answer first.filter t.filter
+        per_ask_on = omega (arith, before.per_ask, next.per_ask)
 
         pub answers_on : StepAnswers rules count first.filter answer t.filter
         answers_on = behind answer next.once next.answers
@@ -151,9 +155,11 @@ module _ {T W : Type 0} (rules : FilterRules T W) where
 
       pub passed : LinkPasses rules s (Ok true) m → ForwardsNext rules s (Ok true) m
       passed p = record {
-        goes = unasked (AlsoAsked rules (AskedFrom rules s.filter)) (Ok true) p;
+        goes = unasked (AskedFrom rules s.filter) (Ok true) p;
         not_given_up = All-nil (λ turn. ¬ (EndsInterrupted rules turn));
         once = unasked_once (Ok true) p;
+        reads = FewReadFaults-none (rules.read s.filter) (rules.read m.filter) p.passes.told;
+        per_ask = omega (arith, p.passes.wrote.flushes, ap (λ l. l.reads.asks) p.passes.told);
         flushes = inl p.passes.wrote.flushes;
         quiet = λ drops sent. p.passes.wrote.flushes;
         more = elim p.passes.answers.2 [
@@ -174,6 +180,8 @@ module _ {T W : Type 0} (rules : FilterRules T W) where
         goes = unasked (AskedFrom rules s.filter) (Err e) p;
         not_given_up = tt;
         once = unasked_once (Err e) p;
+        reads = omega (arith, FewReadFaults-none (rules.read s.filter) (rules.read m.filter) p.passes.told);
+        per_ask = omega (arith, p.passes.wrote.flushes, ap (λ l. l.reads.asks) p.passes.told);
         flushes = inl p.passes.wrote.flushes;
         quiet = λ drops sent. p.passes.wrote.flushes;
         more = tt;
@@ -193,9 +201,11 @@ module _ {T W : Type 0} (rules : FilterRules T W) where
 
       none_passed : (Such : Ask T → Type 0) → LinkPasses rules s (Ok false) m → SoFar rules Such 0 s m
       none_passed Such p = record {
-        goes = unasked (AlsoAsked rules Such) (Ok false) p;
+        goes = unasked Such (Ok false) p;
         not_given_up = All-nil (λ turn. ¬ (EndsInterrupted rules turn));
         once = unasked_once (Ok false) p;
+        reads = FewReadFaults-none (rules.read s.filter) (rules.read m.filter) p.passes.told;
+        per_ask = omega (arith, p.passes.wrote.flushes, ap (λ l. l.reads.asks) p.passes.told);
         still = StaysOpen-none rules s.filter m.filter p.passes.told;
         forwarded = none_forwarded rules lawful s.filter m.filter p.passes.answers.0;
         met = met_writes s.filter m.filter p.passes.told p.passes.wrote.ended;
@@ -213,6 +223,8 @@ module _ {T W : Type 0} (rules : FilterRules T W) where
             goes = goes_on Such 0 s m t before so answer next;
             not_given_up = not_given_up_on Such 0 s m t before so answer next;
             once = once_on Such 0 s m t before so answer next;
+            reads = reads_on Such 0 s m t before so answer next;
+            per_ask = per_ask_on Such 0 s m t before so answer next;
             flushes = elim next.flushes [
               | inl same ↦ inl (same ∙ p.passes.wrote.flushes)
               | inr one ↦ inr (omega (arith, one.0, p.passes.wrote.flushes), omega (arith, one.1, less))
@@ -239,6 +251,12 @@ module _ {T W : Type 0} (rules : FilterRules T W) where
             (once_more s.filter m.filter p.flushes.wrote.flushes) p.flushes.wrote.few;
         not_given_up = tt;
         once = flush_once (Err e) p;
+        reads = omega (arith, FewReadFaults-none (rules.read s.filter) (rules.read m.filter) p.flushes.told);
+        per_ask = omega (
+          arith,
+          once_more s.filter m.filter p.flushes.wrote.flushes,
+          ap (λ l. l.reads.asks) p.flushes.told,
+        );
         flushes = p.flushes.wrote.flushes;
         quiet = p.flushes.quiet;
         more = tt;
@@ -262,19 +280,29 @@ module _ {T W : Type 0} (rules : FilterRules T W) where
       moves : Moves rules s.filter [] [] t.filter
       moves = Moves-on rules lawful s.filter m.filter t.filter [] [] p.flushes.moves turn.moves
 
-      abbrev goes : (more : ℕ) → Goes rules (AskedTo rules answer (AskedFrom rules s.filter)) more s t
-      goes more = Goes-weaker rules (AskedTo rules answer (AskedFrom rules m.filter))
-          (AskedTo rules answer (AskedFrom rules s.filter))
-          (so_asked rules (AskedFrom rules m.filter) (AskedFrom rules s.filter)
+      abbrev goes : (more : ℕ) → Goes rules (AskedFrom rules s.filter) more s t
+      goes more = Goes-weaker rules (AskedFrom rules m.filter) (AskedFrom rules s.filter)
           (asked_after s.filter m.filter p.flushes.moves (flush_once s m (Ok tt) p)
-          (StaysOpen-none rules s.filter m.filter p.flushes.told)) answer) more s t
-          (Goes-turn rules (AskedTo rules answer (AskedFrom rules m.filter)) more s m t (flush_unasked s m (Ok tt) p) p.noted
+          (StaysOpen-none rules s.filter m.filter p.flushes.told)) more s t
+          (Goes-turn rules (AskedFrom rules m.filter) more s m t (flush_unasked s m (Ok tt) p) p.noted
           (once_more s.filter m.filter p.flushes.wrote.flushes) p.flushes.wrote.few turn.told turn.asks turn.noted turn.along
-          turn.turn turn.each turn.asked)
+          turn.turn turn.each)
 
       once : AsksOnce rules s.filter t.filter
       once = AsksOnce-joins rules s.filter m.filter t.filter (flush_once s m (Ok tt) p)
           (StaysOpen-none rules s.filter m.filter p.flushes.told) turn.once
+
+      reads : ReadsFew rules answer s.filter t.filter
+      reads = omega (arith, FewReadFaults-none (rules.read s.filter) (rules.read m.filter) p.flushes.told, turn.reads)
+
+      per_ask : FlushesPerAsk rules answer s.filter t.filter
+      per_ask = omega (
+        arith,
+        once_more s.filter m.filter p.flushes.wrote.flushes,
+        ap (λ w. w.log.writes.flushes) turn.told,
+        ap (λ l. l.reads.asks) p.flushes.told,
+        turn.asked,
+      )
 
       wrote : MetInterrupts (rules.target s.filter).log.writes (rules.target t.filter).log.writes
       wrote = subst (λ w. MetInterrupts (rules.target s.filter).log.writes w.log.writes) (sym turn.told) p.flushes.wrote.ended
@@ -296,16 +324,15 @@ module _ {T W : Type 0} (rules : FilterRules T W) where
       quiet drops sent = ap (λ w. w.log.writes.flushes) turn.told ∙ p.flushes.quiet drops sent
 
       ended : (next : Result Bool (Cause W))
-          → ((ask : Ask T) → AskedTo rules answer (AskedFrom rules s.filter) ask
-          → AskedTo rules next (AskedFrom rules s.filter) ask)
+          → ReadsFew rules next s.filter t.filter → FlushesPerAsk rules next s.filter t.filter
           → OnTrue rules next (NoneGaveUp rules (turn.asks ∷ [])) → OnTrue rules next (GoesAhead rules s.filter t.filter)
           → StepAnswers rules 0 s.filter next t.filter → ForwardsNext rules s next t
-      ended next so not_given_up more answers = record {
-        goes = Goes-weaker rules (AskedTo rules answer (AskedFrom rules s.filter))
-            (AskedTo rules next (AskedFrom rules s.filter)) so (option_map_or flushed_last (result_err next) 0) s t
-            (goes (option_map_or flushed_last (result_err next) 0));
+      ended next reads per_ask not_given_up more answers = record {
+        goes = goes (option_map_or flushed_last (result_err next) 0);
         not_given_up = not_given_up;
         once = once;
+        reads = reads;
+        per_ask = per_ask;
         flushes = flushes;
         quiet = quiet;
         more = more;
@@ -316,35 +343,38 @@ module _ {T W : Type 0} (rules : FilterRules T W) where
 
     module _ (s m t : Linked T) (p : LinkFlushes rules s (Ok tt) m) where
       pub no_more : TakesTurn rules m (Ok false) t → ForwardsNext rules s (Ok false) t
-      no_more turn = ended s m t p (Ok false) turn (Ok false) (λ ask is. is) tt tt (
-        none_forwarded rules lawful s.filter t.filter (moves s m t p (Ok false) turn),
-        lawful.ends_after s.filter m.filter t.filter [] (Ok tt) p.flushes.moves.hands
-            (StaysOpen-none rules s.filter m.filter p.flushes.told) turn.answers.0,
-        turn.sent,
-        met s m t p (Ok false) turn turn.answers.1,
-      )
+      no_more turn = ended s m t p (Ok false) turn (Ok false) (reads s m t p (Ok false) turn)
+          (per_ask s m t p (Ok false) turn) tt tt (
+            none_forwarded rules lawful s.filter t.filter (moves s m t p (Ok false) turn),
+            lawful.ends_after s.filter m.filter t.filter [] (Ok tt) p.flushes.moves.hands
+                (StaysOpen-none rules s.filter m.filter p.flushes.told) turn.answers.0,
+            turn.sent,
+            met s m t p (Ok false) turn turn.answers.1,
+          )
 
       pub wrong_next : (why : W) → TakesTurn rules m (Err (asked.Wrong why)) t → ForwardsNext rules s (Err (Wrong why)) t
-      wrong_next why turn = ended s m t p (Err (asked.Wrong why)) turn (Err (Wrong why)) (λ ask is. is) tt tt (
-        none_forwarded rules lawful s.filter t.filter (moves s m t p (Err (asked.Wrong why)) turn),
-        lawful.ends_after s.filter m.filter t.filter [] (Err why) p.flushes.moves.hands
-            (StaysOpen-none rules s.filter m.filter p.flushes.told) turn.answers.0,
-        turn.sent,
-        met s m t p (Err (asked.Wrong why)) turn turn.answers.1,
-      )
+      wrong_next why turn = ended s m t p (Err (asked.Wrong why)) turn (Err (Wrong why))
+          (reads s m t p (Err (asked.Wrong why)) turn) (per_ask s m t p (Err (asked.Wrong why)) turn) tt tt (
+            none_forwarded rules lawful s.filter t.filter (moves s m t p (Err (asked.Wrong why)) turn),
+            lawful.ends_after s.filter m.filter t.filter [] (Err why) p.flushes.moves.hands
+                (StaysOpen-none rules s.filter m.filter p.flushes.told) turn.answers.0,
+            turn.sent,
+            met s m t p (Err (asked.Wrong why)) turn turn.answers.1,
+          )
 
       not_read : (why : AskError W) (e : Error) → TakesTurn rules m (Err why) t → GivesUp rules m.filter e t.filter
           → ForwardsNext rules s (Err (Read e)) t
-      not_read why e turn up = ended s m t p (Err why) turn (Err (Read e)) (λ ask is. is) tt tt (
-        none_forwarded rules lawful s.filter t.filter (moves s m t p (Err why) turn),
-        up.0,
-        turn.sent,
-        lawful.waits_fresh t.filter up.0 turn.sent,
-        record {
-          reader = subst (λ l. ReadGaveUp e l.reads.faults (rules.read t.filter).reads.faults) p.flushes.told up.1;
-          writer = wrote s m t p (Err why) turn;
-        },
-      )
+      not_read why e turn up = ended s m t p (Err why) turn (Err (Read e)) (reads s m t p (Err why) turn)
+          (per_ask s m t p (Err why) turn) tt tt (
+            none_forwarded rules lawful s.filter t.filter (moves s m t p (Err why) turn),
+            up.0,
+            turn.sent,
+            lawful.waits_fresh t.filter up.0 turn.sent,
+            record {
+              reader = subst (λ l. ReadGaveUp e l.reads.faults (rules.read t.filter).reads.faults) p.flushes.told up.1;
+              writer = wrote s m t p (Err why) turn;
+            },
+          )
 
       pub none_read : (e : Error) → TakesTurn rules m (Err (asked.Io e)) t → ForwardsNext rules s (Err (Read e)) t
       none_read e turn = not_read (asked.Io e) e turn turn.answers
@@ -360,6 +390,8 @@ module _ {T W : Type 0} (rules : FilterRules T W) where
           not_given_up = All-cons (λ turn. ¬ (EndsInterrupted rules turn)) turn.asks [] turn.not_given_up
               (All-nil (λ turn. ¬ (EndsInterrupted rules turn)));
           once = once s m t p (Ok true) turn;
+          reads = reads s m t p (Ok true) turn;
+          per_ask = per_ask s m t p (Ok true) turn;
           still = StaysOpen-joins rules s.filter m.filter t.filter (StaysOpen-none rules s.filter m.filter p.flushes.told)
               turn.once turn.answers.2;
           forwarded = none_forwarded rules lawful s.filter t.filter (moves s m t p (Ok true) turn);
@@ -377,6 +409,8 @@ module _ {T W : Type 0} (rules : FilterRules T W) where
               goes = goes_on Such 0 s t u came so answer next;
               not_given_up = not_given_up_on Such 0 s t u came so answer next;
               once = once_on Such 0 s t u came so answer next;
+              reads = reads_on Such 0 s t u came so answer next;
+              per_ask = per_ask_on Such 0 s t u came so answer next;
               flushes = elim (flushes s m t p (Ok true) turn) [
                 | inl same ↦ inl (unflushed ∙ same)
                 | inr one ↦ inr (unflushed ∙ one.0, omega (arith, one.1, next.received))

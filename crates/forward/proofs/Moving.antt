@@ -1,13 +1,12 @@
 -- How calls of a filter, and of a link, follow one another.
-use Rattle.std.proofs.Common.{◌≡◌, ℕ, ◌+◌, ◌≤◌, Bool, true, false, Result, Ok, Err, inl, inr, List, [], ◌∷◌, ◌++◌, length, refl, sym, ap, subst, ◌∙◌, arith, append-nil, append_assoc, length-append, All, flat_map}
+use Rattle.std.proofs.Common.{◌≡◌, ℕ, ◌+◌, ◌≤◌, inl, inr, List, [], ◌∷◌, ◌++◌, length, refl, sym, ap, subst, ◌∙◌, arith, append-nil, append_assoc, length-append, All, flat_map}
 use Rattle.std.proofs.lemmas.Grind.{flat_map-append}
 use Rattle.std.proofs.lemmas.List.Elements.{All-append, All-cons, All-head, All-nil, All-tail, All-weaker}
 use Rattle.redux_buffer.specs.StreamLog.{WriteLog}
-use Rattle.forward.specs.Filter.{AsksOnce, FilterRules, IsLawful, Moves, StaysOpen, WasAsked}
+use Rattle.forward.specs.Filter.{AsksOnce, FilterRules, IsLawful, Moves, StaysOpen}
 use Rattle.forward.specs.Forward.{Forwarded, ForwardedFirst}
-use Rattle.forward.specs.Link.{Ask, AreTurns, AskedBefore, AsksAlong, EndsInterrupted, GivesUpLast, Goes, IsAsk, IsTurn, Linked, NoneGaveUp, NotAsked, states_of}
+use Rattle.forward.specs.Link.{Ask, AreTurns, AsksAlong, EndsInterrupted, GivesUpLast, Goes, IsAsk, IsTurn, Linked, NoneGaveUp, NotAsked, states_of}
 use Rattle.forward.specs.Prompt.{AsksGiveOrFail, WritesOn}
-use Rattle.forward.specs.Steps.{AlsoAsked, AskedTo}
 use Rattle.forward.specs.Streams.{FewFaults}
 use Rattle.forward.specs.PromptLaws.{AsksGiveOrFail-joins, AsksGiveOrFail-none, WritesOn-none, WritesOn-joins}
 
@@ -16,19 +15,6 @@ pub longer : {old new : WriteLog} → WritesOn old new → length old.received �
 longer {old} writes = omega (arith, ap length writes.received.equal, length-append old.received writes.received.more)
 
 module _ {T W : Type 0} (rules : FilterRules T W) where
-  -- asks that came to an answer are such others
-  pub so_asked : {E : Type 0} (Such Other : Ask T → Type 0) → ((ask : Ask T) → Such ask → Other ask) → (answer : Result Bool E)
-      (ask : Ask T) → AskedTo rules answer Such ask → AskedTo rules answer Other ask
-  so_asked Such Other so (Ok true) ask is = (so ask is.0, is.1)
-  so_asked Such Other so (Ok false) ask is = so ask is
-  so_asked Such Other so (Err e) ask is = so ask is
-
-  pub also_asked : {E : Type 0} (Such : Ask T → Type 0) (answer : Result Bool E) (ask : Ask T) → AlsoAsked rules Such ask
-      → AskedTo rules answer Such ask × WasAsked rules ask.before ask.after
-  also_asked Such (Ok true) ask is = (is, is.1)
-  also_asked Such (Ok false) ask is = is
-  also_asked Such (Err e) ask is = is
-
   module _ (lawful : IsLawful rules) where
     pub Moves-none : (s : T) → Moves rules s [] [] s
     Moves-none s = record { hands = lawful.hands_none s; takes = lawful.takes_none s }
@@ -176,17 +162,6 @@ module _ {T W : Type 0} (rules : FilterRules T W) where
     last = last_join first.turns second.turns not_given_up second.last;
   }
 
-  abbrev pub Asked : Ask T → Type 0
-  Asked ask = WasAsked rules ask.before ask.after
-
-  -- behind asks of the stream alone
-  pub asked_join : (asks more : List (Ask T)) → All Asked asks → AskedBefore rules more → AskedBefore rules (asks ++ more)
-  asked_join [] more each asked = asked
-  asked_join (ask ∷ []) [] each asked = tt
-  asked_join (ask ∷ []) (next ∷ more) each asked = (All-head Asked ask [] each, asked)
-  asked_join (ask ∷ next ∷ asks) more each asked =
-      (All-head Asked ask (next ∷ asks) each, asked_join (next ∷ asks) more (All-tail Asked ask (next ∷ asks) each) asked)
-
   module _ (Such : Ask T → Type 0) where
     -- the stream was not asked
     abbrev pub Goes-unasked : (more : ℕ) (s t : Linked T) → NotAsked rules s.filter t.filter → t.states ≡ s.states
@@ -198,7 +173,6 @@ module _ {T W : Type 0} (rules : FilterRules T W) where
       along = none;
       turns = turns_none;
       each = All-nil Such;
-      asked = tt;
       flushes = omega (arith, flushes);
       few = few;
     }
@@ -211,15 +185,13 @@ module _ {T W : Type 0} (rules : FilterRules T W) where
         → (rules.target m.filter).log.writes.flushes ≤ (rules.target s.filter).log.writes.flushes + 1
         → FewFaults 0 (rules.target s.filter).log.writes (rules.target m.filter).log.writes
         → rules.target t.filter ≡ rules.target m.filter → (asks : List (Ask T)) → t.states ≡ m.states ++ states_of asks
-        → AsksAlong rules m.filter asks t.filter → IsTurn rules asks → All Such asks → AskedBefore rules asks
-        → Goes rules Such more s t
-    Goes-turn more s m t none same flushed few told asks noted along turn each asked = record {
+        → AsksAlong rules m.filter asks t.filter → IsTurn rules asks → All Such asks → Goes rules Such more s t
+    Goes-turn more s m t none same flushed few told asks noted along turn each = record {
       asks = asks;
       noted = noted ∙ ap (λ l. l ++ states_of asks) same;
       along = along_after s.filter m.filter t.filter asks none along;
       turns = one_turn asks turn;
       each = each;
-      asked = asked;
       flushes = omega (arith, flushed, ap (λ w. w.log.writes.flushes) told);
       few = omega (
         arith,
@@ -229,19 +201,15 @@ module _ {T W : Type 0} (rules : FilterRules T W) where
       );
     }
 
-    -- asks of the stream alone, and then others
-    abbrev pub Goes-joins : (First : Ask T → Type 0) → ((ask : Ask T) → First ask → Such ask × Asked ask)
-        → (more : ℕ) (s t u : Linked T) → (first : Goes rules First 0 s t) → NoneGaveUp rules first.turns.turns
+    -- asks of which no turn gave up, and then others
+    abbrev pub Goes-joins : (more : ℕ) (s t u : Linked T) → (first : Goes rules Such 0 s t) → NoneGaveUp rules first.turns.turns
         → Goes rules Such more t u → Goes rules Such more s u
-    Goes-joins First so more s t u first not_given_up second = record {
+    Goes-joins more s t u first not_given_up second = record {
       asks = first.asks ++ second.asks;
       noted = noted_on s.states t.states u.states first.asks second.asks first.noted second.noted;
       along = AsksAlong-joins s.filter t.filter u.filter first.asks second.asks first.along second.along;
       turns = turns_join first.asks second.asks first.turns not_given_up second.turns;
-      each = All-append Such first.asks second.asks (All-weaker First Such (λ ask is. (so ask is).0) first.asks first.each)
-          second.each;
-      asked = asked_join first.asks second.asks (All-weaker First Asked (λ ask is. (so ask is).1) first.asks first.each)
-          second.asked;
+      each = All-append Such first.asks second.asks first.each second.each;
       flushes = omega (
         arith,
         first.flushes,
@@ -259,7 +227,6 @@ module _ {T W : Type 0} (rules : FilterRules T W) where
       along = goes.along;
       turns = goes.turns;
       each = All-weaker Such Other so goes.asks goes.each;
-      asked = goes.asked;
       flushes = goes.flushes;
       few = goes.few;
     }

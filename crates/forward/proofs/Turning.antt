@@ -1,16 +1,17 @@
 -- A turn of asks.
 use Rattle.std.proofs.Common.{◌≡◌, ℕ, ◌+◌, ◌<◌, ◌≤◌, ◌⊎◌, inl, inr, List, [], ◌∷◌, ◌++◌, length, Bool, true, false, None, Some, Result, Ok, Err, refl, sym, ap, subst, ◌∙◌, arith, append-nil, append_assoc, length-append, All}
 use Rattle.std.proofs.lemmas.List.{append_cancel_left}
-use Rattle.std.proofs.lemmas.List.Elements.{All-nil, All-push, All-weaker}
+use Rattle.std.proofs.lemmas.List.Elements.{All-nil, All-push}
 use Rattle.std.specs.declared.io.Error.{Error}
 use Rattle.redux_buffer.specs.Faults.{IsInterrupt, interrupt_limit, OnlyInterrupts, OnlyInterrupts-none}
-use Rattle.forward.specs.Filter.{AsksOnce, FailedToRead, FilterRules, IsLawful, Moves, StaysOpen, WasAsked}
-use Rattle.forward.specs.Link.{Ask, AskedBefore, AsksAlong, EndsInterrupted, Gave, IsIdle, IsInterrupted, IsTurn, IsTurnBehind, LinkAsks, Linked, states_of}
-use Rattle.forward.specs.Steps.{AlsoAsked, AskTurnAnswers, AskedFrom, AskedTo, OnTrue, ReadsOnlyInterrupted, RowGoes, TakesTurn}
-use Rattle.forward.specs.StreamsLaws.{gave_up, one_more, only_more}
+use Rattle.forward.specs.Filter.{AsksOnce, FailedToRead, FilterRules, IsLawful, Moves, StaysOpen}
+use Rattle.forward.specs.Link.{Ask, AsksAlong, EndsInterrupted, Gave, IsIdle, IsInterrupted, IsTurn, IsTurnBehind, LinkAsks, Linked, states_of}
+use Rattle.forward.specs.Steps.{AskTurnAnswers, AskedFrom, OnTrue, ReadsFew, ReadsOnlyInterrupted, RowGoes, TakesTurn, without_payload}
+use Rattle.forward.specs.Streams.{FewReadFaults}
+use Rattle.forward.specs.StreamsLaws.{came_more, gave_up, one_more, only_more}
 use Rattle.forward.specs.declared.error.AskError.{AskError}
 use Rattle.forward.specs.declared.error.AskError.TheVariants.{Wrong, Io, IoBehind}
-use Rattle.forward.proofs.Moving.{Asked, AsksAlong-joins, AsksOnce-joins, AsksOnce-none, Moves-none, Moves-on, NotAsked-none, StaysOpen-joins, StaysOpen-none, along_one, asked_join, noted_on}
+use Rattle.forward.proofs.Moving.{AsksAlong-joins, AsksOnce-joins, AsksOnce-none, Moves-none, Moves-on, NotAsked-none, StaysOpen-joins, StaysOpen-none, along_one, noted_on}
 
 module _ {T W : Type 0} (rules : FilterRules T W) where
   -- as many asks as this count were interrupted
@@ -19,7 +20,8 @@ module _ {T W : Type 0} (rules : FilterRules T W) where
     pub noted : t.states ≡ s.states ++ states_of asks
     pub along : AsksAlong rules s.filter asks t.filter
     pub turn : (more : List (Ask T)) → IsTurnBehind rules count more → IsTurn rules (asks ++ more)
-    pub each : All (AlsoAsked rules (AskedFrom rules s.filter)) asks
+    pub each : All (AskedFrom rules s.filter) asks
+    pub asked : (rules.read s.filter).reads.asks ≤ (rules.read t.filter).reads.asks
     pub told : rules.target t.filter ≡ rules.target s.filter
     pub ready : rules.ready t.filter
     pub lacks : rules.lacks t.filter
@@ -29,6 +31,7 @@ module _ {T W : Type 0} (rules : FilterRules T W) where
     pub still : StaysOpen rules s.filter t.filter
     pub met : ReadsOnlyInterrupted rules s.filter t.filter
     pub often : length (rules.read s.filter).reads.faults + count ≤ length (rules.read t.filter).reads.faults
+    pub few : FewReadFaults count (rules.read s.filter).reads (rules.read t.filter).reads
 
   module _ (lawful : IsLawful rules) (s : Linked T) where
     pub none_yet : rules.ready s.filter → rules.lacks s.filter → rules.sent s.filter → Retrying 0 s s
@@ -37,7 +40,8 @@ module _ {T W : Type 0} (rules : FilterRules T W) where
       noted = sym (append-nil s.states);
       along = NotAsked-none rules s.filter;
       turn = λ more is. is;
-      each = All-nil (AlsoAsked rules (AskedFrom rules s.filter));
+      each = All-nil (AskedFrom rules s.filter);
+      asked = omega arith;
       told = refl;
       ready = ready;
       lacks = lacks;
@@ -47,6 +51,7 @@ module _ {T W : Type 0} (rules : FilterRules T W) where
       still = StaysOpen-none rules s.filter s.filter refl;
       met = OnlyInterrupts-none (rules.read s.filter).reads.faults;
       often = omega arith;
+      few = omega arith;
     }
 
     module _ (count : ℕ) (t u : Linked T) (before : Retrying count s t) (answer : Result Bool (AskError W))
@@ -74,17 +79,11 @@ module _ {T W : Type 0} (rules : FilterRules T W) where
         asks = next.asks.asks;
       }
 
-      each_asked : WasAsked rules t.filter u.filter → All (AlsoAsked rules (AskedFrom rules s.filter)) all
-      each_asked was = All-push (AlsoAsked rules (AskedFrom rules s.filter)) before.asks last before.each (from, was)
+      each : All (AskedFrom rules s.filter) all
+      each = All-push (AskedFrom rules s.filter) before.asks last before.each from
 
-      each_from : All (AskedFrom rules s.filter) all
-      each_from = All-push (AskedFrom rules s.filter) before.asks last
-          (All-weaker (AlsoAsked rules (AskedFrom rules s.filter)) (AskedFrom rules s.filter) (λ ask is. is.0) before.asks
-          before.each) from
-
-      asked : AskedBefore rules all
-      asked = asked_join rules before.asks (last ∷ [])
-          (All-weaker (AlsoAsked rules (AskedFrom rules s.filter)) (Asked rules) (λ ask is. is.1) before.asks before.each) tt
+      asked : (rules.read s.filter).reads.asks ≤ (rules.read u.filter).reads.asks
+      asked = omega (arith, before.asked, next.asks.grows.asks)
 
       once : AsksOnce rules s.filter u.filter
       once = AsksOnce-joins rules s.filter t.filter u.filter before.once before.still next.asks.once
@@ -98,15 +97,6 @@ module _ {T W : Type 0} (rules : FilterRules T W) where
       only : (rules.read u.filter).reads.faults ≡ (rules.read t.filter).reads.faults
           → ReadsOnlyInterrupted rules s.filter u.filter
       only same = subst (OnlyInterrupts (rules.read s.filter).reads.faults) (sym same) before.met
-
-    -- one that failed asked the stream
-    fault_asked : (a b : T) (e : Error) → FailedToRead rules e a b → WasAsked rules a b
-    fault_asked a b e fault same = omega (
-      arith,
-      ap length fault,
-      length-append (rules.read a).reads.faults (e ∷ []),
-      ap (λ l. length l.reads.faults) same,
-    )
 
     -- an ask that was interrupted, in front of others
     again : (ask : Ask T) → IsInterrupted rules ask → (row : ℕ) → (more : List (Ask T))
@@ -124,10 +114,10 @@ module _ {T W : Type 0} (rules : FilterRules T W) where
     module _ (count : ℕ) (t u : Linked T) (before : Retrying count s t) where
       retry : (e : Error) (answer : Result Bool (AskError W)) (next : LinkAsks rules t answer u) → IsInterrupt e
           → rules.waits u.filter × FailedToRead rules e t.filter u.filter × StaysOpen rules t.filter u.filter → (with : ℕ)
-          → with ≤ count + 1
+          → with ≤ count + 1 → FewReadFaults with (rules.read s.filter).reads (rules.read u.filter).reads
           → ((more : List (Ask T)) → IsTurnBehind rules with more
           → IsTurnBehind rules count (record { before = t.filter; after = u.filter } ∷ more)) → Retrying with s u
-      retry e answer next is failed with few turn =
+      retry e answer next is failed with few reads turn =
           let old = (rules.read t.filter).reads.faults in
           let new = (rules.read u.filter).reads.faults in
           record {
@@ -136,7 +126,8 @@ module _ {T W : Type 0} (rules : FilterRules T W) where
             along = along count t u before answer next;
             turn = λ more so. subst (IsTurn rules) (sym (append_assoc before.asks (last count t u before answer next ∷ []) more))
                 (before.turn (last count t u before answer next ∷ more) (turn more so));
-            each = each_asked count t u before answer next (fault_asked t.filter u.filter e failed.1);
+            each = each count t u before answer next;
+            asked = asked count t u before answer next;
             told = next.asks.told ∙ before.told;
             ready = next.asks.ready;
             lacks = lawful.waits_lacks u.filter failed.0;
@@ -146,23 +137,26 @@ module _ {T W : Type 0} (rules : FilterRules T W) where
             still = still count t u before answer next failed.2;
             met = only_more (rules.read s.filter).reads.faults old new e before.met failed.1 is;
             often = omega (arith, before.often, few, one_more old new e failed.1);
+            few = reads;
           }
 
-      pub one_retry : (answer : Result Bool (AskError W)) → LinkAsks rules t answer u → (with : ℕ)
+      pub one_retry : count ≤ interrupt_limit → (answer : Result Bool (AskError W)) → LinkAsks rules t answer u → (with : ℕ)
           → RowGoes answer count (Some with) → Retrying with s u
-      one_retry (Ok more) next with goes = absurd (no_row with goes)
-      one_retry (Err (Wrong why)) next with goes = absurd (no_row with goes)
-      one_retry (Err (Io e)) next with goes =
+      one_retry few (Ok more) next with goes = absurd (no_row with goes)
+      one_retry few (Err (Wrong why)) next with goes = absurd (no_row with goes)
+      one_retry few (Err (Io e)) next with goes =
           let a = next.asks.answers in
           let is : IsInterrupted rules (record { before = t.filter; after = u.filter }) =
           record { error = e; interrupt = goes.0; failed = a.1 } in
           retry e (Err (Io e)) next goes.0 (a.0, a.1, a.2) with (omega (arith, goes.2))
+          (omega (arith, before.few, goes.2, one_more _ _ e a.1, came_more _ _ next.asks.grows))
           (λ more so. again _ is count more (inl (a.3, goes.1, subst (λ n. IsTurnBehind rules n more) goes.2 so)))
-      one_retry (Err (IoBehind e)) next with goes =
+      one_retry few (Err (IoBehind e)) next with goes =
           let a = next.asks.answers in
           let is : IsInterrupted rules (record { before = t.filter; after = u.filter }) =
           record { error = e; interrupt = goes.0; failed = a.1 } in
           retry e (Err (IoBehind e)) next goes.0 (a.0, a.1, a.2) with (omega (arith, goes.1))
+          (omega (arith, before.few, few, goes.1, one_more _ _ e a.1, a.4.more))
           (λ more so. again _ is count more (inr (a.3, subst (λ n. IsTurnBehind rules n more) goes.1 so)))
 
       -- these are at most as many as the limit
@@ -234,11 +228,11 @@ module _ {T W : Type 0} (rules : FilterRules T W) where
           let a = next.asks.answers in
           failed e (Err (IoBehind e)) next (λ is. absurd (ends is)) (a.0, a.1)
 
-      each : (answer : Result Bool (AskError W)) (next : LinkAsks rules t answer u)
-          → All (AskedTo rules answer (AskedFrom rules s.filter)) (all count t u before answer next)
-      each (Ok true) next = each_asked count t u before (Ok true) next next.asks.answers.3
-      each (Ok false) next = each_from count t u before (Ok false) next
-      each (Err e) next = each_from count t u before (Err e) next
+      turn_asks : (answer : Result Bool (AskError W)) → LinkAsks rules t answer u
+          → (rules.read s.filter).reads.asks + 1 ≤ (rules.read u.filter).reads.asks + without_payload rules answer
+      turn_asks (Ok true) next = omega (arith, before.asked, next.asks.answers.3.asks)
+      turn_asks (Ok false) next = omega (arith, before.asked, next.asks.grows.asks)
+      turn_asks (Err e) next = omega (arith, before.asked, next.asks.grows.asks)
 
       not_given_up : (answer : Result Bool (AskError W)) (next : LinkAsks rules t answer u)
           → OnTrue rules answer (¬ (EndsInterrupted rules (all count t u before answer next)))
@@ -247,6 +241,19 @@ module _ {T W : Type 0} (rules : FilterRules T W) where
           not_interrupted _ is.error (sym next.asks.answers.1 ∙ is.failed)
       not_given_up (Ok false) next = tt
       not_given_up (Err e) next = tt
+
+      reads : (answer : Result Bool (AskError W)) → LinkAsks rules t answer u → ReadsFew rules answer s.filter u.filter
+      reads (Ok true) next =
+          let a = next.asks.answers in
+          omega (arith, before.few, most, ap length a.1, a.3.more)
+      reads (Ok false) next =
+          omega (arith, before.few, most, ap length next.asks.answers.1, came_more _ _ next.asks.grows)
+      reads (Err (Wrong why)) next =
+          omega (arith, before.few, most, ap length next.asks.answers.1, came_more _ _ next.asks.grows)
+      reads (Err (Io e)) next =
+          omega (arith, before.few, most, one_more _ _ e next.asks.answers.1, came_more _ _ next.asks.grows)
+      reads (Err (IoBehind e)) next =
+          omega (arith, before.few, most, one_more _ _ e next.asks.answers.1, came_more _ _ next.asks.grows)
 
       -- the last ask of a turn
       pub turn_ends : (answer : Result Bool (AskError W)) → LinkAsks rules t answer u → RowGoes answer count None
@@ -257,12 +264,13 @@ module _ {T W : Type 0} (rules : FilterRules T W) where
         along = along count t u before answer next;
         turn = before.turn (last count t u before answer next ∷ []) (often answer next ends);
         not_given_up = not_given_up answer next;
-        each = each answer next;
-        asked = asked count t u before answer next;
+        each = each count t u before answer next;
+        asked = turn_asks answer next;
         told = next.asks.told ∙ before.told;
         ready = next.asks.ready;
         moves = moves count t u before answer next;
         sent = next.asks.sent before.sent;
         once = once count t u before answer next;
+        reads = reads answer next;
         answers = answers answer next ends;
       }

@@ -1,8 +1,10 @@
 -- A filter: how payloads go from one stream to another, and what its calls promise.
 use Rattle.std.specs.Prelude.{◌≡◌, ℕ, ◌+◌, ◌<◌, ◌≤◌, ◌⊎◌, List, [], ◌∷◌, ◌++◌, length, Bool, true, false, Result, Ok, Err, OnErr, OnOk}
 use Rattle.std.specs.declared.io.Error.{Error}
+use Rattle.redux_buffer.specs.LogGrows.{ReadLogGrows}
 use Rattle.redux_buffer.specs.StreamLog.{StreamLog}
 use Rattle.forward.specs.Prompt.{AsksGiveOrFail, SentBeforeAsking}
+use Rattle.forward.specs.Streams.{came}
 use Rattle.forward.specs.Target.{FlushWrites, PassWrites, TargetState, bytes_taken}
 use Rattle.forward.specs.declared.error.AskError.{AskError}
 use Rattle.forward.specs.declared.error.AskError.TheVariants.{Wrong, Io, IoBehind}
@@ -114,18 +116,20 @@ module _ {T W : Type 0} (rules : FilterRules T W) where
   abbrev pub StaysOpen : T → T → Type 0
   StaysOpen s t = NeverGaveNothing s t ⊎ rules.closed t
 
-  -- the stream was asked, as its log tells
-  abbrev pub WasAsked : T → T → Type 0
-  WasAsked s t = ¬ (rules.read t ≡ rules.read s)
+  -- the stream was asked, and gave something, or its end
+  pub record SomeCame (s t : T) : Type 0 where
+    pub asks : (rules.read s).reads.asks < (rules.read t).reads.asks
+    pub more : came (rules.read s).reads < came (rules.read t).reads
 
   abbrev pub AskAnswers : T → Result Bool (AskError W) → T → Type 0
-  AskAnswers s (Ok true) t = rules.has t × Read s t × StaysOpen s t × WasAsked s t
+  AskAnswers s (Ok true) t = rules.has t × Read s t × StaysOpen s t × SomeCame s t
   AskAnswers s (Ok false) t = rules.ends s (Ok tt) t × Read s t
   AskAnswers s (Err (Wrong why)) t = rules.ends s (Err why) t × Read s t
   AskAnswers s (Err (Io e)) t = rules.waits t × FailedToRead e s t × StaysOpen s t × (rules.wants t ≡ rules.wants s)
-  AskAnswers s (Err (IoBehind e)) t = rules.waits t × FailedToRead e s t × StaysOpen s t × (rules.wants t < rules.wants s)
+  AskAnswers s (Err (IoBehind e)) t =
+      rules.waits t × FailedToRead e s t × StaysOpen s t × (rules.wants t < rules.wants s) × SomeCame s t
 
-  -- what `ask` does: the writer is let be, and an `Err` leaves what was searched
+  -- what `ask` does: the writer is let be, nothing that the stream told is forgotten, and an `Err` leaves what was searched
   pub record FilterAsks (s : T) (answer : Result Bool (AskError W)) (t : T) : Type 0 where
     pub told : rules.target t ≡ rules.target s
     pub ready : rules.ready t
@@ -133,6 +137,7 @@ module _ {T W : Type 0} (rules : FilterRules T W) where
     pub sent : rules.sent s → rules.sent t
     pub asks : rules.asks s t
     pub once : AsksOnce s t
+    pub grows : ReadLogGrows (rules.read s).reads (rules.read t).reads
     pub looks : OnErr answer (rules.looks s t)
     pub answers : AskAnswers s answer t
 

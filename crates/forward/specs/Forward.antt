@@ -3,10 +3,11 @@ use Rattle.std.specs.Prelude.{◌≡◌, ℕ, ◌+◌, ◌^◌, ◌≤◌, ◌�
 use Rattle.std.specs.Option.{option_map_or}
 use Rattle.std.specs.Result.{result_err}
 use Rattle.std.specs.declared.io.Error.{Error}
+use Rattle.redux_buffer.specs.Faults.{interrupt_limit}
 use Rattle.forward.specs.Filter.{FilterRules, Moves, StaysOpen}
-use Rattle.forward.specs.Flushes.{FlushesSend}
+use Rattle.forward.specs.Flushes.{FlushesAsk, FlushesSend}
 use Rattle.forward.specs.Link.{Goes, IsPrompt, Linked}
-use Rattle.forward.specs.Streams.{EndsOnce, MetNoFault, ReadFailed, WriteGaveUp}
+use Rattle.forward.specs.Streams.{EndsOnce, FewReadFaults, MetNoFault, ReadFailed, WriteGaveUp}
 use Rattle.forward.specs.declared.error.Cause.{Cause}
 use Rattle.forward.specs.declared.error.Cause.TheVariants.{Wrong, Read, Write, Count}
 use Rattle.forward.specs.declared.error.Stopped.{Stopped}
@@ -60,11 +61,14 @@ module _ {T W : Type 0} (rules : FilterRules T W) where
   ForwardAnswers s (Err stopped) t = StopsBy stopped.count s stopped.cause t
 
   -- what `forward` does: in front of each ask all that was due was sent, an interrupted one is made again, and the end is asked
-  -- for once. The writer is flushed once for each turn of asks at most, and but for one no more often than it received bytes
+  -- for once. The writer is flushed once for each turn of asks at most, and but for one no more often than the stream was asked,
+  -- nor than it received bytes
   pub record Forwards (s : Linked T) (answer : Result ℕ (Stopped W)) (t : Linked T) : Type 0 where
     pub goes : Goes rules (IsPrompt rules s.filter) (option_map_or (λ stopped. flushed_last stopped.cause) (result_err answer) 0)
         s t
     pub once : EndsOnce (rules.read s.filter).reads (rules.read t.filter).reads
+    pub reads : FewReadFaults (interrupt_limit + 1) (rules.read s.filter).reads (rules.read t.filter).reads
+    pub per_ask : FlushesAsk 1 (rules.read s.filter) (rules.read t.filter) (rules.target s.filter).log (rules.target t.filter).log
     pub flushes : FlushesSend 1 (rules.target s.filter).log.writes (rules.target t.filter).log.writes
     pub ready : rules.ready t.filter
     pub answers : ForwardAnswers s.filter answer t.filter

@@ -1,13 +1,11 @@
 -- What asks come to in front of each of which all that was due was sent, and what their turns.
 use Rattle.std.proofs.Common.{inl, inr, ◌≡◌, ◌⊎◌, ℕ, ◌+◌, ◌<◌, ◌≤◌, List, [], ◌∷◌, ◌++◌, length, refl, sym, ap, subst, ◌∙◌, arith, append-nil, length-append, All, flat_map, Result, Ok, Err}
-use Rattle.std.specs.Option.{option_map_or}
-use Rattle.std.specs.Result.{result_err}
 use Rattle.std.proofs.lemmas.List.{nil_from_length}
 use Rattle.std.proofs.lemmas.List.Elements.{All-head, All-tail}
 use Rattle.redux_buffer.specs.StreamLog.{StreamLog}
 use Rattle.forward.specs.Filter.{FilterRules, Moves}
 use Rattle.forward.specs.Forward.{Forwarded, ForwardedFirst, Forwards, StopsBy, flushed_last}
-use Rattle.forward.specs.Link.{Ask, AskedBefore, AsksAlong, Goes, IsPrompt, IsTurn, Linked}
+use Rattle.forward.specs.Link.{Ask, AsksAlong, Goes, IsPrompt, IsTurn, Linked}
 use Rattle.forward.specs.Prompt.{HoldsNothingBack, RunsPromptly}
 use Rattle.forward.specs.PromptLaws.{HoldsNothingBack-on, WritesOn-none}
 use Rattle.forward.specs.Streams.{FewFaults}
@@ -103,35 +101,6 @@ module _ {T W : Type 0} (rules : FilterRules T W) where
         → (rules.read t.filter ≡ rules.read s.filter) ⊎ Leaves (rules.read t.filter)
     Goes-leaves s t goes = leaves_along s.filter t.filter goes.asks goes.along
 
-  -- an ask of the filter's asks the stream, or leaves its log as it is
-  abbrev pub CountsAsks : Type 0
-  CountsAsks = (s t : T) → rules.asks s t
-      → (rules.read t ≡ rules.read s) ⊎ ((rules.read s).reads.asks < (rules.read t).reads.asks)
-
-  -- the stream is asked in each ask but the last
-  asks_but_last : CountsAsks → (s t : T) (asks : List (Ask T)) → AsksAlong rules s asks t → AskedBefore rules asks
-      → (rules.read s).reads.asks + length asks ≤ (rules.read t).reads.asks + 1
-  asks_but_last counts s t [] along asked = omega (arith, ap (λ l. l.reads.asks) along.told)
-  asks_but_last counts s t (ask ∷ []) along asked =
-      let on : (rules.read ask.before).reads.asks ≤ (rules.read ask.after).reads.asks =
-      elim (counts ask.before ask.after along.1.asks) [
-        | inl same ↦ omega (arith, ap (λ l. l.reads.asks) same)
-        | inr some ↦ omega (arith, some)
-      ] in
-      omega (arith, ap (λ l. l.reads.asks) along.0.told, on, ap (λ l. l.reads.asks) along.2.told)
-  asks_but_last counts s t (ask ∷ next ∷ more) along asked =
-      let some : (rules.read ask.before).reads.asks < (rules.read ask.after).reads.asks =
-      elim (counts ask.before ask.after along.1.asks) [
-        | inl same ↦ absurd (asked.0 same)
-        | inr some ↦ some
-      ] in
-      omega (
-        arith,
-        ap (λ l. l.reads.asks) along.0.told,
-        some,
-        asks_but_last counts ask.after t (next ∷ more) along.2 asked.1,
-      )
-
 -- behind the last ask there is one flush at most
 pub one_flush : {W : Type 0} (cause : Cause W) → flushed_last cause ≤ 1
 one_flush (Wrong why) = omega arith
@@ -146,32 +115,19 @@ pub Forwards-few : {T W : Type 0} (rules : FilterRules T W) (s t : Linked T) (an
 Forwards-few rules s t (Ok count) over = over.goes.few
 Forwards-few rules s t (Err stopped) over = omega (arith, over.goes.few, one_flush stopped.cause)
 
-last_flush : {W : Type 0} (answer : Result ℕ (Stopped W))
-    → option_map_or (λ stopped. flushed_last stopped.cause) (result_err answer) 0 ≤ 1
-last_flush (Ok count) = omega arith
-last_flush (Err stopped) = one_flush stopped.cause
-
--- what a run does whose filter counts its asks
+-- what a run does
 pub Forwards-runs : {T W : Type 0} (rules : FilterRules T W) (s t : Linked T) (answer : Result ℕ (Stopped W))
-    → CountsAsks rules → Forwards rules s answer t
-    → RunsPromptly (rules.due s.filter) (failure_count answer) 2 (rules.read s.filter) (rules.read t.filter)
+    → Forwards rules s answer t
+    → RunsPromptly (rules.due s.filter) (failure_count answer) (rules.read s.filter) (rules.read t.filter)
     (rules.target s.filter).log (rules.target t.filter).log
-Forwards-runs rules s t answer counts over =
-    let goes = over.goes in
-    record {
-      prompt = Goes-holds rules s t goes;
-      once = over.once;
-      few = Forwards-few rules s t answer over;
-      flushes = over.flushes;
-      per_ask = omega (
-        arith,
-        goes.flushes,
-        asks_but_last rules counts s.filter t.filter goes.asks goes.along goes.asked,
-        turns_counted rules goes.turns.turns goes.turns.each,
-        ap length goes.turns.equal,
-        last_flush answer,
-      );
-    }
+Forwards-runs rules s t answer over = record {
+  prompt = Goes-holds rules s t over.goes;
+  once = over.once;
+  reads = over.reads;
+  few = Forwards-few rules s t answer over;
+  flushes = over.flushes;
+  per_ask = over.per_ask;
+}
 
 -- whatever came of it, payloads were moved
 module _ {T W : Type 0} (rules : FilterRules T W) where

@@ -3,7 +3,7 @@ use Rattle.std.specs.Prelude.{◌≡◌, ℕ, ◌+◌, ◌<◌, ◌≤◌, ◌�
 use Rattle.std.specs.List.{All, flat_map}
 use Rattle.std.specs.declared.io.Error.{Error}
 use Rattle.redux_buffer.specs.Faults.{IsInterrupt, interrupt_limit}
-use Rattle.forward.specs.Filter.{AsksSent, FailedToRead, FilterAsks, FilterFlushes, FilterPasses, FilterRules, WasAsked}
+use Rattle.forward.specs.Filter.{AsksSent, FailedToRead, FilterAsks, FilterFlushes, FilterPasses, FilterRules}
 use Rattle.forward.specs.Prompt.{WritesOn}
 use Rattle.forward.specs.Streams.{FewFaults}
 use Rattle.forward.specs.declared.error.AskError.{AskError}
@@ -64,12 +64,6 @@ module _ {T W : Type 0} (rules : FilterRules T W) where
   abbrev pub IsTurn : List (Ask T) → Type 0
   IsTurn asks = IsTurnBehind 0 asks
 
-  -- the stream was asked in each of these but the last, which may be of an end that is known, or of bytes that came before
-  abbrev pub AskedBefore : List (Ask T) → Type 0
-  AskedBefore [] = Unit {0}
-  AskedBefore (ask ∷ []) = Unit {0}
-  AskedBefore (ask ∷ next ∷ more) = WasAsked rules ask.before ask.after × AskedBefore (next ∷ more)
-
   -- the last of these was interrupted
   abbrev pub EndsInterrupted : List (Ask T) → Type 0
   EndsInterrupted [] = ⊥
@@ -93,15 +87,14 @@ module _ {T W : Type 0} (rules : FilterRules T W) where
     pub equal : asks ≡ flat_map (λ turn. turn) turns
     pub last : GivesUpLast turns
 
-  -- what calls do to a link: each ask that was made is noted, and is such a one; the stream was asked in each but the last of
-  -- all; and the writer was flushed once for each turn of them at most, and so many times more, and sending failed so often
+  -- what calls do to a link: each ask that was made is noted, and is such a one; and the writer was flushed once for each turn of
+  -- them at most, and so many times more, and sending failed so often
   pub record Goes (Such : Ask T → Type 0) (more : ℕ) (s t : Linked T) : Type 0 where
     pub asks : List (Ask T)
     pub noted : t.states ≡ s.states ++ states_of asks
     pub along : AsksAlong s.filter asks t.filter
     pub turns : AreTurns asks
     pub each : All Such asks
-    pub asked : AskedBefore asks
     pub flushes : (rules.target t.filter).log.writes.flushes
         ≤ (rules.target s.filter).log.writes.flushes + length turns.turns + more
     pub few : FewFaults more (rules.target s.filter).log.writes (rules.target t.filter).log.writes

@@ -1,9 +1,10 @@
 -- Runs that hold nothing back: where the reader is asked, all that is due of what it gave before was received and flushed.
 use Rattle.std.specs.Prelude.{◌≡◌, ℕ, ◌+◌, ◌≤◌, ◌⊎◌, List, ◌++◌, length}
+use Rattle.redux_buffer.specs.Faults.{interrupt_limit}
 use Rattle.redux_buffer.specs.GoesOn.{GoesOn}
 use Rattle.redux_buffer.specs.StreamLog.{StreamLog, WriteLog}
 use Rattle.forward.specs.Flushes.{FlushesAsk, FlushesSend}
-use Rattle.forward.specs.Streams.{EndsOnce, FewFaults}
+use Rattle.forward.specs.Streams.{EndsOnce, FewFaults, FewReadFaults}
 
 -- these bytes were given before the last ask, and then what that gave: each other ask gave a byte, or failed
 pub record AskedLast (before : List ℕ) (read read' : StreamLog) : Type 0 where
@@ -29,15 +30,16 @@ abbrev pub HoldsNothingBack : (List ℕ → List ℕ → Type 0) → StreamLog �
 HoldsNothingBack IsDue read read' written written' =
     (read' ≡ read) ⊎ SentBeforeAsking IsDue read read' written written'
 
--- how a run goes on that failed so often: nothing is held back; the reader tells its end once; interrupted writes are made again
--- only so often; and the writer is flushed only where that sends something, and, but for so many times, something is asked for
-pub record RunsPromptly (IsDue : List ℕ → List ℕ → Type 0) (failed idle : ℕ) (read read' written written' : StreamLog)
+-- how a run goes on that failed so often: nothing is held back; the reader tells its end once; interrupted reads and writes are
+-- made again only so often; and the writer is flushed only where that sends something, and something is asked for, but for once
+pub record RunsPromptly (IsDue : List ℕ → List ℕ → Type 0) (failed : ℕ) (read read' written written' : StreamLog)
     : Type 0 where
   pub prompt : HoldsNothingBack IsDue read read' written written'
   pub once : EndsOnce read.reads read'.reads
+  pub reads : FewReadFaults (interrupt_limit + 1) read.reads read'.reads
   pub few : FewFaults failed written.writes written'.writes
   pub flushes : FlushesSend 1 written.writes written'.writes
-  pub per_ask : FlushesAsk idle read read' written written'
+  pub per_ask : FlushesAsk 1 read read' written written'
 
 -- there were no more asks than bytes given and faults
 abbrev pub AsksGiveOrFail : StreamLog → StreamLog → Type 0

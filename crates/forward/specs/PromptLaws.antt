@@ -86,21 +86,23 @@ HoldsNothingBack-such P Q a b k l so (inr sent) = inr (record {
 })
 
 -- neither stream was called
-pub RunsPromptly-none : (IsDue : List ℕ → List ℕ → Type 0) (failed idle : ℕ) (read written : StreamLog)
-    → RunsPromptly IsDue failed idle read read written written
-RunsPromptly-none IsDue failed idle read written = record {
+pub RunsPromptly-none : (IsDue : List ℕ → List ℕ → Type 0) (failed : ℕ) (read written : StreamLog)
+    → RunsPromptly IsDue failed read read written written
+RunsPromptly-none IsDue failed read written = record {
   prompt = inl refl;
   once = omega arith;
+  reads = omega arith;
   few = omega arith;
   flushes = omega arith;
   per_ask = omega arith;
 }
 
-pub RunsPromptly-such : (P Q : List ℕ → List ℕ → Type 0) {failed idle : ℕ} {a b k l : StreamLog}
-    → ((bytes due : List ℕ) → P bytes due → Q bytes due) → RunsPromptly P failed idle a b k l → RunsPromptly Q failed idle a b k l
+pub RunsPromptly-such : (P Q : List ℕ → List ℕ → Type 0) {failed : ℕ} {a b k l : StreamLog}
+    → ((bytes due : List ℕ) → P bytes due → Q bytes due) → RunsPromptly P failed a b k l → RunsPromptly Q failed a b k l
 RunsPromptly-such P Q {a = a} {b} {k} {l} so runs = record {
   prompt = HoldsNothingBack-such P Q a b k l so runs.prompt;
   once = runs.once;
+  reads = runs.reads;
   few = runs.few;
   flushes = runs.flushes;
   per_ask = runs.per_ask;

@@ -1,14 +1,15 @@
 -- The steps of `forward`: one turn of asks, and one payload.
-use Rattle.std.specs.Prelude.{◌≡◌, ℕ, ◌+◌, ◌<◌, ◌≤◌, ◌⊎◌, List, [], ◌++◌, length, Bool, true, false, Option, None, Some, Result, Ok, Err}
+use Rattle.std.specs.Prelude.{◌≡◌, ℕ, ◌+◌, ◌*◌, ◌<◌, ◌≤◌, ◌⊎◌, List, [], ◌++◌, length, Bool, true, false, Option, None, Some, Result, Ok, Err}
 use Rattle.std.specs.Option.{option_map_or}
 use Rattle.std.specs.Result.{result_err}
 use Rattle.std.specs.List.{All}
 use Rattle.std.specs.declared.io.Error.{Error}
 use Rattle.redux_buffer.specs.Faults.{IsInterrupt, interrupt_limit, OnlyInterrupts}
-use Rattle.forward.specs.Filter.{AsksOnce, FilterRules, Moves, StaysOpen, StaysSent, WasAsked}
+use Rattle.forward.specs.Filter.{AsksOnce, FilterRules, Moves, StaysOpen, StaysSent}
+use Rattle.forward.specs.Flushes.{FlushesAsk}
 use Rattle.forward.specs.Forward.{Forwarded, NoneFailed, StopsBy, flushed_last}
-use Rattle.forward.specs.Link.{Ask, AskedBefore, AsksAlong, EndsInterrupted, Goes, IsTurn, Linked, NoneGaveUp, states_of}
-use Rattle.forward.specs.Streams.{ReadGaveUp}
+use Rattle.forward.specs.Link.{Ask, AsksAlong, EndsInterrupted, Goes, IsTurn, Linked, NoneGaveUp, states_of}
+use Rattle.forward.specs.Streams.{FewReadFaults, ReadGaveUp}
 use Rattle.forward.specs.Target.{FlushesOnce, bytes_taken}
 use Rattle.forward.specs.declared.error.AskError.{AskError}
 use Rattle.forward.specs.declared.error.AskError.TheVariants.{Wrong, Io, IoBehind}
@@ -33,16 +34,6 @@ module _ {T W : Type 0} (rules : FilterRules T W) where
     pub sent : rules.sent ask.before
     pub asks : rules.asks ask.before ask.after
 
-  -- the stream was asked in it too
-  abbrev pub AlsoAsked : (Ask T → Type 0) → Ask T → Type 0
-  AlsoAsked Such ask = Such ask × WasAsked rules ask.before ask.after
-
-  -- how asks were made that came to this answer: where it is a payload, the stream was asked in each
-  abbrev pub AskedTo : {E : Type 0} → Result Bool E → (Ask T → Type 0) → Ask T → Type 0
-  AskedTo (Ok true) Such = AlsoAsked Such
-  AskedTo (Ok false) Such = Such
-  AskedTo (Err e) Such = Such
-
   -- reads were at most interrupted
   abbrev pub ReadsOnlyInterrupted : T → T → Type 0
   ReadsOnlyInterrupted s t = OnlyInterrupts (rules.read s).reads.faults (rules.read t).reads.faults
@@ -58,6 +49,19 @@ module _ {T W : Type 0} (rules : FilterRules T W) where
   AskTurnAnswers s (Err (Io e)) t = GivesUp s e t
   AskTurnAnswers s (Err (IoBehind e)) t = GivesUp s e t
 
+  -- how many turns come to this answer that bring no payload
+  abbrev pub without_payload : {E : Type 0} → Result Bool E → ℕ
+  without_payload (Ok true) = 0
+  without_payload (Ok false) = 1
+  without_payload (Err cause) = 1
+
+  abbrev pub ReadsFew : {E : Type 0} → Result Bool E → T → T → Type 0
+  ReadsFew answer s t = FewReadFaults ((interrupt_limit + 1) * without_payload answer) (rules.read s).reads (rules.read t).reads
+
+  abbrev pub FlushesPerAsk : {E : Type 0} → Result Bool E → T → T → Type 0
+  FlushesPerAsk answer s t =
+      FlushesAsk (without_payload answer) (rules.read s) (rules.read t) (rules.target s).log (rules.target t).log
+
   -- the fact holds where there was a payload
   abbrev pub OnTrue : {E : Type 0} → Result Bool E → Type 0 → Type 0
   OnTrue (Ok true) fact = fact
@@ -71,13 +75,14 @@ module _ {T W : Type 0} (rules : FilterRules T W) where
     pub along : AsksAlong rules s.filter asks t.filter
     pub turn : IsTurn rules asks
     pub not_given_up : OnTrue answer (¬ (EndsInterrupted rules asks))
-    pub each : All (AskedTo answer (AskedFrom s.filter)) asks
-    pub asked : AskedBefore rules asks
+    pub each : All (AskedFrom s.filter) asks
+    pub asked : (rules.read s.filter).reads.asks + 1 ≤ (rules.read t.filter).reads.asks + without_payload answer
     pub told : rules.target t.filter ≡ rules.target s.filter
     pub ready : rules.ready t.filter
     pub moves : Moves rules s.filter [] [] t.filter
     pub sent : rules.sent t.filter
     pub once : AsksOnce rules s.filter t.filter
+    pub reads : ReadsFew answer s.filter t.filter
     pub answers : AskTurnAnswers s.filter answer t.filter
 
   -- what the next payload's answer says, behind so many that went over
@@ -97,8 +102,10 @@ module _ {T W : Type 0} (rules : FilterRules T W) where
 
   -- what is done for one payload
   pub record ForwardsNext (s : Linked T) (answer : Result Bool (Cause W)) (t : Linked T) : Type 0 where
-    pub goes : Goes rules (AskedTo answer (AskedFrom s.filter)) (option_map_or flushed_last (result_err answer) 0) s t
+    pub goes : Goes rules (AskedFrom s.filter) (option_map_or flushed_last (result_err answer) 0) s t
     pub once : AsksOnce rules s.filter t.filter
+    pub reads : ReadsFew answer s.filter t.filter
+    pub per_ask : FlushesPerAsk answer s.filter t.filter
     pub flushes : FlushesOnce (rules.target s.filter) (rules.target t.filter)
     pub quiet : rules.drops → rules.sent s.filter
         → (rules.target t.filter).log.writes.flushes ≡ (rules.target s.filter).log.writes.flushes

@@ -1,5 +1,5 @@
 -- How the two streams of a run fared.
-use Rattle.std.specs.Prelude.{◌+◌, ◌≤◌, ◌⊎◌, List, length}
+use Rattle.std.specs.Prelude.{ℕ, ◌+◌, ◌*◌, ◌≤◌, ◌⊎◌, List, length}
 use Rattle.std.specs.declared.io.Error.{Error}
 pub use Rattle.redux_buffer.specs.Faults.{FaultsOften, FewFaults}
 use Rattle.redux_buffer.specs.Faults.{IsInterrupt, interrupt_limit, OnlyInterrupts, FaultAfterInterrupts, MetInterrupts, SendErrorCaused}
@@ -33,3 +33,12 @@ pub record WriteGaveUp (NoneLeft : Type 0) (e : Error) (read read' written writt
 -- the reader gave nothing once at most: behind its end it isn't asked again
 abbrev pub EndsOnce : ReadLog → ReadLog → Type 0
 EndsOnce old new = new.zero_reads ≤ old.zero_reads + 1
+
+-- how many bytes the reader gave, and how often the end
+abbrev pub came : ReadLog → ℕ
+came l = length l.given + l.zero_reads
+
+-- for each byte that came, and each end, reads failed as often as the limit at most, and so many times more
+abbrev pub FewReadFaults : ℕ → ReadLog → ReadLog → Type 0
+FewReadFaults more old new =
+    length new.faults + interrupt_limit * came old ≤ length old.faults + interrupt_limit * came new + more

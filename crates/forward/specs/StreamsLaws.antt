@@ -3,8 +3,9 @@ use Rattle.std.proofs.Common.{◌≡◌, ◌+◌, ◌≤◌, inl, inr, List, [],
 use Rattle.std.proofs.lemmas.List.Elements.{All-push}
 use Rattle.std.specs.declared.io.Error.{Error}
 use Rattle.redux_buffer.specs.Faults.{IsInterrupt, interrupt_limit, OnlyInterrupts, OnlyInterrupts-none, OnlyInterrupts-joins, FaultAfterInterrupts-after, MetInterrupts-joins, MetInterrupts-none, SendErrorCaused-after}
-use Rattle.redux_buffer.specs.StreamLog.{StreamLog}
-use Rattle.forward.specs.Streams.{MetNoFault, ReadFailed, ReadGaveUp, WriteGaveUp, WriterFailed}
+use Rattle.redux_buffer.specs.LogGrows.{ReadLogGrows}
+use Rattle.redux_buffer.specs.StreamLog.{ReadLog, StreamLog}
+use Rattle.forward.specs.Streams.{FewReadFaults, MetNoFault, ReadFailed, ReadGaveUp, WriteGaveUp, WriterFailed, came}
 
 pub MetNoFault-none : (read written : StreamLog) → MetNoFault read read written written
 MetNoFault-none read written =
@@ -80,3 +81,13 @@ WriteGaveUp-so so p = record {
   failed = p.failed;
   often = λ is. elim (p.often is) [ inl many ↦ inl many | inr none ↦ inr (so none) ];
 }
+
+-- what came stays so
+pub came_more : (a b : ReadLog) → ReadLogGrows a b → came a ≤ came b
+came_more a b grows =
+    omega (arith, grows.zero_reads, ap length grows.given.equal, length-append a.given grows.given.more)
+
+-- a stream that wasn't asked met no fault
+pub FewReadFaults-none : (a b : StreamLog) → b ≡ a → FewReadFaults 0 a.reads b.reads
+FewReadFaults-none a b same =
+    omega (arith, ap (λ l. length l.reads.faults) same, ap (λ l. came l.reads) same)

@@ -358,5 +358,5 @@ pack_refused most read written e memory = record {
     },
     inr (record { memory = memory; read_same = refl; written_same = refl }),
   );
-  promptly = RunsPromptly-none (IsDue most) 1 2 read written;
+  promptly = RunsPromptly-none (IsDue most) 1 read written;
 }

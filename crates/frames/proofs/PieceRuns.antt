@@ -7,7 +7,7 @@ use Rattle.forward.specs.declared.error.Cause.TheVariants as cause
 use Rattle.piece_filter.specs.PieceRuns.{Over, all_over, over_held, over_lost}
 use Rattle.piece_filter.specs.Pieces.{IsCoherent, OfferedWhole, PiecesEnd, Piecewise, grammar_of, held_of, piece_rules}
 use Rattle.piece_filter.specs.PiecesLaws.{none_held}
-use Rattle.frames.specs.Words.{Error, failure_count, Begins, IsOpen, rest, FilterRules, ForwardAnswers, NoneFailed, StopsBy, Stopped, AllSent, OverCount, ReadFailed, WriteGaveUp, RunError}
+use Rattle.frames.specs.Words.{Error, Begins, IsOpen, rest, FilterRules, ForwardAnswers, NoneFailed, StopsBy, Stopped, AllSent, OverCount, ReadFailed, WriteGaveUp, RunError}
 use Rattle.programs.specs.Outcome.{IsErrorOf, Returns}
 use Rattle.programs.specs.OutcomeLaws.{Returns-says}
 use Rattle.programs.specs.declared.error.RunError.TheVariants.{Wrong, Read, Write, Io}

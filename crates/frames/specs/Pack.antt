@@ -64,8 +64,8 @@ PackRan most read read' written written' (Err (Io e)) =
     (first : PackedFirst most read read' written written')
     × (OverCount e (length first.lines) read read' written written' ⊎ RefusedBeforeCalls e read read' written written')
 
--- all that a run of `pack` promises: the writer was flushed once for each ask of the reader at most, and twice more
+-- all that a run of `pack` promises: the writer was flushed once for each ask of the reader at most, and once more
 pub record Packs (most : ℕ) (read read' written written' : StreamLog) (answer : Result (Unit {0}) (RunError InputFault))
     : Type 0 where
   pub ran : PackRan most read read' written written' answer
-  pub promptly : RunsPromptly (IsDue most) (failure_count answer) 2 read read' written written'
+  pub promptly : RunsPromptly (IsDue most) (failure_count answer) read read' written written'

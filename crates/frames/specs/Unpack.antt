@@ -57,8 +57,8 @@ UnpackRan most read read' written written' (Err (Io e)) =
     (first : UnpackedFirst most read read' written written')
     × (OverCount e (length first.lines) read read' written written' ⊎ RefusedBeforeCalls e read read' written written')
 
--- all that a run of `unpack` promises: the writer was flushed once for each ask of the reader at most, and twice more
+-- all that a run of `unpack` promises: the writer was flushed once for each ask of the reader at most, and once more
 pub record Unpacks (most : ℕ) (read read' written written' : StreamLog) (answer : Result (Unit {0}) (RunError InputFault))
     : Type 0 where
   pub ran : UnpackRan most read read' written written' answer
-  pub promptly : RunsPromptly (IsDue most) (failure_count answer) 2 read read' written written'
+  pub promptly : RunsPromptly (IsDue most) (failure_count answer) read read' written written'

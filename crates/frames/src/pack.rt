@@ -19,7 +19,7 @@ use std::alloc::Global;
 /// a line too. A line of more than `most` bytes ends the run; the frames of the lines before it are sent then.
 ///
 /// Nothing is held back: where the reader is asked, the frames of all whole lines that it gave were sent and flushed.
-/// The writer is flushed once for each ask at most, and twice more. Both streams come back, also after a fault. Once the reader
+/// The writer is flushed once for each ask at most, and once more. Both streams come back, also after a fault. Once the reader
 /// has given nothing it isn't called again.
 pub fn pack<R: TellRead, W: TellWrite>(
     alloc: Global,

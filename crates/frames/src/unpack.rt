@@ -18,7 +18,7 @@ use std::alloc::Global;
 /// bytes end the run; the lines of the frames before them are sent then.
 ///
 /// Nothing is held back: where the reader is asked, the lines of all whole frames that it gave were sent and flushed.
-/// The writer is flushed once for each ask at most, and twice more. Both streams come back, also after a fault. Once the reader
+/// The writer is flushed once for each ask at most, and once more. Both streams come back, also after a fault. Once the reader
 /// has given nothing it isn't called again.
 pub fn unpack<R: TellRead, W: TellWrite>(
     alloc: Global,

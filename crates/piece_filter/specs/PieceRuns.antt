@@ -1,12 +1,12 @@
 -- What a whole run over pieces comes to.
-use Rattle.std.proofs.Common.{◌≡◌, ℕ, ◌⊎◌, inl, inr, List, [], ◌++◌, Option, None, Result, refl, sym, ap, subst, ◌∙◌, append-nil, append_assoc}
+use Rattle.std.proofs.Common.{◌≡◌, ℕ, ◌⊎◌, List, [], ◌++◌, Option, None, Result, refl, sym, ap, subst, ◌∙◌, append-nil, append_assoc}
 use Rattle.buffer_redux.specs.BufReader.{RanDry}
 use Rattle.buffer_redux.specs.WriterLaws.{WritesInOrder-fresh}
 use Rattle.piece_reader.specs.PieceReader.{rest}
 use Rattle.piece_reader.specs.PiecesWentLaws.{drop_none}
 use Rattle.forward.specs.Filter.{FilterRules, Moves}
 use Rattle.forward.specs.Forward.{Forwarded, ForwardedFirst, Forwards}
-use Rattle.forward.specs.ForwardLaws.{CountsAsks, Forwards-moves, Forwards-runs}
+use Rattle.forward.specs.ForwardLaws.{Forwards-moves, Forwards-runs}
 use Rattle.forward.specs.Link.{Linked}
 use Rattle.forward.specs.Prompt.{RunsPromptly}
 use Rattle.forward.specs.PromptLaws.{RunsPromptly-such}
@@ -16,16 +16,10 @@ use Rattle.programs.specs.Streams.{AllSent}
 use Rattle.piece_filter.specs.Pieces.{AnswersAll, HasEnded, IsText, Piecewise, grammar_of, held_of, piece_rules}
 use Rattle.piece_filter.specs.PiecesLaws.{given_since, none_held}
 
--- the stream is asked, or its log stays
-counts_asks : {T R D X A W E : Type 0} (remaining : R → Option (List ℕ)) (f : Piecewise T R D X A W E)
-    → CountsAsks (piece_rules remaining f)
-counts_asks remaining f s t (inl same, grows) = inl same
-counts_asks remaining f s t (inr over, grows) = inr over.1.some
-
 -- where nothing is buffered, what is due is that of what is given
 pub runs_unread : {T R D X A W E : Type 0} (remaining : R → Option (List ℕ)) (f : Piecewise T R D X A W E) (s t : Linked T)
     (answer : Result ℕ (Stopped E)) → (f.source s.filter).reader.block.bytes ≡ [] → Forwards (piece_rules remaining f) s answer t
-    → RunsPromptly (f.due (f.source s.filter).decoder (f.service s.filter)) (failure_count answer) 2
+    → RunsPromptly (f.due (f.source s.filter).decoder (f.service s.filter)) (failure_count answer)
     (f.source s.filter).reader.log (f.source t.filter).reader.log (f.target s.filter).log (f.target t.filter).log
 runs_unread remaining f s t answer unread over =
     let rules = piece_rules remaining f in
@@ -33,7 +27,7 @@ runs_unread remaining f s t answer unread over =
     let due = f.due m.decoder (f.service s.filter) in
     RunsPromptly-such (rules.due s.filter) due
     (λ bytes are is. subst (λ left. due (left ++ bytes) are) (drop_none m.handed m.reader.block.bytes unread) is)
-    (Forwards-runs rules s t answer (counts_asks remaining f) over)
+    (Forwards-runs rules s t answer over)
 
 -- neither buffer grew, where none may
 pub rooms_kept : {T R D X A W E : Type 0} (remaining : R → Option (List ℕ)) (f : Piecewise T R D X A W E) → ¬ f.grows

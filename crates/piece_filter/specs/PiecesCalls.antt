@@ -1,7 +1,7 @@
 -- What the calls of a filter of pieces do.
 use Rattle.std.proofs.Common.{◌≡◌, ℕ, ◌+◌, ◌≤◌, ◌<◌, ◌⊎◌, inl, inr, Bool, true, false, List, [], ◌∷◌, ◌++◌, length, Option, None, Some, Result, Ok, Err, refl, sym, ap, subst, ◌∙◌, arith, append-nil, length-append, length-drop, OnErr, OnOk}
-use Rattle.std.proofs.lemmas.Bool.{true≢false}
-use Rattle.std.proofs.lemmas.List.{append_cancel_left}
+use Rattle.std.proofs.lemmas.Bool.{cases_lt, true≢false}
+use Rattle.std.proofs.lemmas.List.{nil_from_length}
 use Rattle.std.specs.declared.io.Error.{Error}
 use Rattle.buffer_redux.specs.BufWriter.{WasFlushed, WritesInOrder}
 use Rattle.buffer_redux.specs.LogGrows.{ReadLogGrows-none}
@@ -16,7 +16,8 @@ use Rattle.piece_reader.specs.PiecesWentLaws.{PiecesWent-none}
 use Rattle.piece_reader.specs.StaysLeftLaws.{StaysLeft-went}
 use Rattle.piece_reader.specs.declared.decoder.Span.{Span}
 use Rattle.piece_reader.specs.declared.error.NextError.TheVariants as Why
-use Rattle.forward.specs.Filter.{AskAnswers, FilterAsks, FilterFlushes, FilterPasses, FilterRules, StaysOpen}
+use Rattle.forward.specs.Filter.{AskAnswers, FilterAsks, FilterFlushes, FilterPasses, FilterRules, SomeCame, StaysOpen}
+use Rattle.forward.specs.Streams.{came}
 use Rattle.forward.specs.Target.{PassWrites, bytes_taken}
 use Rattle.forward.specs.declared.error.AskError.TheVariants.{Wrong, Io, IoBehind}
 use Rattle.forward.specs.declared.error.AskError.{AskError}
@@ -250,33 +251,50 @@ module _ {T R D X A W E : Type 0} (remaining : R → Option (List ℕ)) (f : Pie
           quiet = λ ended. absurd (true≢false (sym ended ∙ going));
           closed = λ ended. absurd (true≢false (sym ended ∙ going));
         };
+        grows = next.went.grows;
         looks = looks;
         answers = answers;
       }
 
-      -- what wasn't buffered was asked for
-      more_asked : ¬ (Begins (grammar_of f s) (rest (f.source s))) → (payload : List ℕ) → NextGives (Ok (Some payload))
-          → ¬ ((f.source t).reader.log ≡ (f.source s).reader.log)
-      more_asked no_piece payload next told =
-          let hands = next.went.hands in
-          let given = (f.source s).reader.log.reads.given in
-          let none : hands.got ≡ [] = append_cancel_left given hands.got []
-          (sym hands.given ∙ ap (λ l. l.reads.given) told ∙ sym (append-nil given)) in
+      given_more : (answer : NextAnswer X) (next : NextGives answer)
+          → length (f.source t).reader.log.reads.given ≡ length (f.source s).reader.log.reads.given + length next.went.hands.got
+      given_more answer next = ap length next.went.hands.given
+          ∙ length-append (f.source s).reader.log.reads.given next.went.hands.got
+
+      some_came : (answer : NextAnswer X) → NextGives answer → came (rules.read s).reads < came (rules.read t).reads
+          → SomeCame rules s t
+      some_came answer next more = record {
+        asks = elim next.asked [
+          | inl same ↦ absurd (omega (arith, more, ap (λ l. came l.reads) same))
+          | inr over ↦ over.1.some
+        ];
+        more = more;
+      }
+
+      -- what wasn't buffered came, or the end did
+      more_came : ¬ (Begins (grammar_of f s) (rest (f.source s))) → (payload : List ℕ) → NextGives (Ok (Some payload))
+          → SomeCame rules s t
+      more_came no_piece payload next =
           let left = rest (f.source s) in
-          elim next.answers.1 [
-            | inl whole ↦ no_piece (record {
-              piece = next.bytes;
-              payload = payload;
-              more = rest (f.source t);
-              is = whole.0;
-              equal = sym (append-nil left) ∙ ap (λ l. left ++ l) (sym none) ∙ sym hands.equal;
-            })
+          some_came (Ok (Some payload)) next (elim next.answers.1 [
+            | inl whole ↦ elim (cases_lt 0 (length next.went.hands.got)) [
+              | inl some ↦ omega (arith, some, given_more (Ok (Some payload)) next, whole.2)
+              | inr none ↦ absurd (no_piece (record {
+                piece = next.bytes;
+                payload = payload;
+                more = rest (f.source t);
+                is = whole.0;
+                equal = sym (append-nil left)
+                    ∙ ap (λ l. left ++ l) (sym (nil_from_length next.went.hands.got (omega (arith, none))))
+                    ∙ sym next.went.hands.equal;
+              }))
+            ]
             | inr last ↦ omega (
               arith,
               MetEnd-once (f.source s) (f.source t) going last.5,
-              ap (λ l. l.reads.zero_reads) told,
+              given_more (Ok (Some payload)) next,
             )
-          ]
+          ])
 
       -- a payload came, and is held
       pub asked_more : (span : Span) → f.held t ≡ Some span
@@ -302,7 +320,7 @@ module _ {T R D X A W E : Type 0} (remaining : R → Option (List ℕ)) (f : Pie
               })
               | inr last ↦ inr last.4
             ],
-            more_asked no_piece payload next,
+            more_came no_piece payload next,
           )
 
       -- no payload came
@@ -377,9 +395,24 @@ module _ {T R D X A W E : Type 0} (remaining : R → Option (List ℕ)) (f : Pie
 
           pub asked_behind : length (rest (f.source s)) < length (rest (f.source t))
               → length (rest (f.source t)) < (grammar_of f s).most → FilterAsks rules s (Err (IoBehind e)) t
-          asked_behind came few =
+          asked_behind longer few =
               failed (Err (IoBehind e)) (still_seen next.looked)
-              (λ waits fault still. (waits, fault, still, omega (arith, came, few, most)))
+              (λ waits fault still. (
+                waits,
+                fault,
+                still,
+                omega (arith, longer, few, most),
+                some_came (Err (Why.Io e)) next (omega (
+                  arith,
+                  longer,
+                  next.answers.4,
+                  given_more (Err (Why.Io e)) next,
+                  ap length next.answers.0,
+                  ap length next.went.hands.equal,
+                  length-append next.bytes (rest (f.source t)),
+                  length-append (rest (f.source s)) next.went.hands.got,
+                )),
+              ))
 
 -- the end is known, and the reader isn't asked
 pub asked_ended : {T R D X A W E : Type 0} (remaining : R → Option (List ℕ)) (f : Piecewise T R D X A W E)
@@ -394,6 +427,7 @@ asked_ended remaining f {s} ready lacks ended = record {
   sent = λ sent. sent;
   asks = (inl refl, ReadLogGrows-none (f.source s).reader.log.reads);
   once = record { once = omega arith; quiet = λ closed. refl; closed = λ closed. closed };
+  grows = ReadLogGrows-none (f.source s).reader.log.reads;
   looks = tt;
   answers = ((lacks, (ready.whole.ended ended, inl ended, omega arith, inl ended)), refl);
 }

@@ -1,5 +1,5 @@
 -- From empty buffers on, what `forward` says of payloads is what the two logs say of the body and its payload.
-use Rattle.std.proofs.Common.{◌≡◌, ◌∙◌, ap, arith, subst, sym}
+use Rattle.std.proofs.Common.{◌∙◌, arith, sym}
 use Rattle.body_reader.specs.BodyReaderLaws.{begun-is}
 use Rattle.chunked.specs.Coding.{chunked}
 use Rattle.chunked.specs.CodingLaws.{chunked_lawful}
@@ -7,7 +7,7 @@ use Rattle.forward.specs.ForwardLaws.{Forwards-moves, Forwards-runs}
 use Rattle.programs.specs.OutcomeLaws.{Returns-count, Returns-says}
 use Rattle.bodies.specs.Decode.{DecodeRan}
 use Rattle.bodies.specs.Decoding.{decoding_rules}
-use Rattle.bodies.specs.DecodingLaws.{counts_asks, std_leaves}
+use Rattle.bodies.specs.DecodingLaws.{std_leaves}
 use Rattle.bodies.proofs.DecodeRuns.{ended, start, stopped}
 use Rattle.bodies.proofs.decode.decode_all.Goals as goal
 
@@ -41,6 +41,6 @@ returns g c =
             (stopped remaining a.limits a.source a.target a.piece c.requires.source.bytes c.requires.empty t over.ready)
             c.forward-answer.result c.outcome.result c.outcome.ensures over.answers;
         promptly = rw (Returns-count c.forward-answer.result c.outcome.result c.outcome.ensures)
-            at (Forwards-runs rules _ c.forward-answer.new.link c.forward-answer.result (counts_asks remaining) over);
+            at (Forwards-runs rules _ c.forward-answer.new.link c.forward-answer.result over);
       };
     })

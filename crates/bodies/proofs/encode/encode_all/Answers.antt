@@ -29,6 +29,7 @@ returns-in-Ok g c =
           prompt = HoldsNothingBack-on IsDue c.args.source.log _ _ c.args.target.log _ _ (Goes-holds rules _ t over.goes)
               refl end.writes;
           once = over.once;
+          reads = over.reads;
           few = omega (arith, over.goes.few, end.few);
           flushes = omega (arith, over.flushes, end.flushes);
           per_ask = omega (arith, before, end.once);
@@ -42,7 +43,6 @@ returns-in-Err g c =
     let t = c.forward-answer.new.link in
     let over = rw (c.new-link.ensures, c.new.ensures.begun) at c.in-Err.ensures.forwards in
     let moves = (Forwards-moves rules _ t _ over).2 in
-    let before = Goes-per_ask rules _ t over.goes (λ s t asked. asked.some) in
     rw (c.into_inner.ensures, c.into_inner-source.ensures) (record {
       read_room = moves.hands.room;
       write_room = moves.takes.went.capacity;
@@ -53,9 +53,10 @@ returns-in-Err g c =
         promptly = record {
           prompt = Goes-holds rules _ t over.goes;
           once = over.once;
+          reads = over.reads;
           few = omega (arith, over.goes.few, one_flush c.in-Err.stopped.cause);
           flushes = over.flushes;
-          per_ask = omega (arith, before, one_flush c.in-Err.stopped.cause);
+          per_ask = over.per_ask;
         };
       };
     })

@@ -12,7 +12,8 @@ tries-init g c = record {
 pub tries-preserved-in-Some-2 : goal.tries-preserved-in-Some-2
 tries-preserved-in-Some-2 g c = record {
   before = one_retry g.F.Filter.rules g.met.F.Filter.lawful c.args.link.now c.tries.row c.tries.link c.ask-answer.new.self
-      c.tries.invariant.before c.ask-answer.result c.ask-answer.ensures.asks c.in-Some.with c.in-Some.ensures;
+      c.tries.invariant.before c.tries.invariant.few c.ask-answer.result c.ask-answer.ensures.asks c.in-Some.with
+      c.in-Some.ensures;
   few = row_fits g.F.Filter.rules g.met.F.Filter.lawful c.args.link.now c.tries.row c.tries.link c.ask-answer.new.self
       c.tries.invariant.before c.tries.invariant.few c.ask-answer.result c.in-Some.with c.in-Some.ensures;
 }
