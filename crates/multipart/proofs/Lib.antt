@@ -1,2 +1,2 @@
-mod Parting
+mod Placing
 mod Turning

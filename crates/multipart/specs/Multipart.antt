@@ -1,5 +1,5 @@
 -- What contracts see of a reader of parts, and what its calls promise.
-use Rattle.std.specs.Prelude.{◌≡◌, ◌≢◌, ℕ, ◌+◌, ◌<◌, ◌≤◌, ◌⊎◌, List, [], ◌∷◌, length, Bool, true, false, if◌then◌else◌, nat_le, Option, Result, Ok, Err}
+use Rattle.std.specs.Prelude.{◌≡◌, ◌≢◌, ℕ, ◌+◌, ◌<◌, ◌≤◌, ◌⊎◌, List, [], ◌∷◌, length, Bool, true, false, if◌then◌else◌, nat_le, Option, Result, Ok, Err, IfErr}
 use Rattle.std.specs.IoError.{error_kind}
 use Rattle.std.specs.declared.io.Error.{Error}
 use Rattle.std.specs.declared.io.ErrorKind.TheVariants.{InvalidData, OutOfMemory, UnexpectedEof}
@@ -23,16 +23,13 @@ use Rattle.multipart.specs.declared.reader.Stand.{Stand}
 use Rattle.multipart.specs.declared.reader.Stand.TheVariants.{Preamble, Head, Part, Ended}
 use Rattle.multipart.specs.Head.{IsPartHead, crlf}
 
--- where a reader stands in a section
-abbrev pub Section : Type 0 → Type 0 → Type 0
-Section S Q = BodyState S Q JustOrUntil JustOr
-
--- the section that is being read, of a text or a head; the coding of those that it takes turns with; the head that came last;
--- where the reader stands; and how many parts began
+-- the section that is being read, of a text or a head; the coding of those that it takes turns with; the head that came last, and
+-- how many bytes there is room for; where the reader stands; and how many parts began
 pub record FormState (S Q : Type 0) : Type 0 where
-  pub body : Section S Q
+  pub body : BodyState S Q JustOrUntil JustOr
   pub other : JustOrUntil
   pub head : List ℕ
+  pub room : ℕ
   pub stand : Stand
   pub parts : ℕ
   pub limits : Limits
@@ -70,12 +67,12 @@ abbrev pub TurnsLast : Bool → JustOrUntil → JustOrUntil → Type 0
 TurnsLast true c d = (d.until.delimiter ≡ head_end true) × (d.just.items ≡ c.just.items) × (d.room ≡ c.room)
 TurnsLast false c d = d ≡ c
 
--- what came of a head so far may begin one; there is nothing of one where there may be no further part
+-- what came of a head so far may begin one, and is no longer than one may be
 pub record BeginsHead {S Q : Type 0} (d : FormState S Q) : Type 0 where
   pub codings : AreCodings (is_full d) d.other d.body.coding
   pub all : d.head ≡ handed_of d.body
   pub is_head : IsPartHead d.other.until.delimiter d.head
-  pub none : is_full d ≡ true → d.head ≡ []
+  pub few : length d.head ≤ head_most d
 
 -- which coding is whose; and what the head is: all that came of one so far, or a whole one in front of a text
 abbrev pub HasHead : {S Q : Type 0} → Stand → FormState S Q → Type 0
@@ -144,18 +141,19 @@ EndsHead s true t =
 module _ {S Q : Type 0} (remaining : S → Option (List ℕ)) (rules : ReadRules Q) where
   -- the rest of the text was dropped, and a head begins behind its end; or why not, within the text
   abbrev pub LeavesText : FormState S Q → Result (Unit {0}) PartError → FormState S Q → Type 0
-  LeavesText s (Ok _) t = (b : Section S Q) × (heads : JustOrUntil)
+  LeavesText s (Ok _) t = (b : BodyState S Q JustOrUntil JustOr) × (heads : JustOrUntil)
       × Drains remaining rules (codes s.body.coding) s.body (Ok tt) b × TurnsLast (is_full s) s.other heads
       × (t ≡ turned (record s { body = b; head = []; other = heads }) Head)
   LeavesText s (Err e) t = (w : BodyError (Unit {0})) × Drains remaining rules (codes s.body.coding) s.body (Err w) t.body
       × (e ≡ part_error w) × (t ≡ record s { body = t.body })
 
   -- the head was collected, while it may go on so. The stream is asked only where nothing was settled, and no piece is cut. What
-  -- is refused stays buffered
+  -- is refused stays buffered; and memory is refused only where there was no room
   abbrev pub CollectsHead : FormState S Q → Result (Unit {0}) (CollectError (Unit {0})) → FormState S Q → Type 0
-  CollectsHead s answer t = (t ≡ record s { body = t.body; head = t.head })
+  CollectsHead s answer t = (t ≡ record s { body = t.body; head = t.head; room = t.room })
       × Collects remaining rules (codes s.body.coding) (IsPartHead s.other.until.delimiter) (head_most s) s.body s.head answer
       t.body t.head
+      × IfErr answer (λ why. why ≡ collect.Memory → s.room < length t.head + t.body.known)
 
   -- to its end, or why not
   abbrev pub CollectsOn : FormState S Q → Result (Unit {0}) PartError → FormState S Q → Type 0

@@ -1,8 +1,8 @@
 //! Fields in the head of a part, and what their parameters say.
-ghost use Rattle.std.specs.Prelude.{◌≡◌, ◌<◌, ◌≤◌, ◌==◌, [], ◌∷◌, length, position, IfSome};
+ghost use Rattle.std.specs.Prelude.{◌≡◌, ◌<◌, ◌≤◌, ◌==◌, false, if◌then◌else◌, length, not, position, IfSome};
 ghost use Rattle.std.specs.List.{prefix_len};
-ghost use Rattle.std.specs.Option.{option_copied, option_map, option_map_or};
-ghost use Rattle.multipart.specs.Head.{as_pair, as_parameter, texts_of, cut, field_of, is_blank, closes, is_opening, parameter_of, next_place, unquoted};
+ghost use Rattle.std.specs.Option.{option_copied};
+ghost use Rattle.multipart.specs.Head.{before, after_front, field_of, first_said, is_blank, is_opening, line, from_line_end, next, parameter_of, said, said_at, trimmed};
 
 use body_reader::{Allows, JustOrUntil};
 
@@ -46,12 +46,29 @@ impl Allows for PartHead<'_> {
     }
 }
 
-// What stands before the first such byte, and behind it, without white space around that.
-fn as_pair(text: &[u8], byte: u8) -> Option<(&[u8], &[u8])>
-    ensures { option_map texts_of result ≡ as_pair byte text.now }
+// Without ASCII white space around it.
+fn trimmed(text: &[u8]) -> &[u8]
+    ensures { result.now ≡ trimmed text.now }
 {
-    let at = place_of(text, byte)?;
-    Some((&text[..at], text[at + 1..].trim_ascii()))
+    text.trim_ascii()
+}
+
+// What stands behind this front, whatever the case of its letters.
+fn after_front<'a>(text: &'a [u8], front: &[u8]) -> Option<&'a [u8]>
+    ensures { option_copied result ≡ after_front front.now text.now }
+{
+    let (begins, rest) = text.split_at_checked(front.len())?;
+    if begins.eq_ignore_ascii_case(front) {
+        return Some(rest);
+    }
+    None
+}
+
+// The same where white space may stand before it.
+fn next<'a>(text: &'a [u8], front: &[u8]) -> Option<&'a [u8]>
+    ensures { option_copied result ≡ next front.now text.now }
+{
+    after_front(text.trim_ascii_start(), front)
 }
 
 // Where the first such byte stands.
@@ -62,98 +79,102 @@ fn place_of(text: &[u8], byte: u8) -> Option<usize>
     text.iter().position(|here| *here == byte)
 }
 
+// What stands before the first such byte, or all.
+fn before(text: &[u8], byte: u8) -> &[u8]
+    ensures { result.now ≡ before byte text.now }
+{
+    match place_of(text, byte) {
+        Some(at) => &text[..at],
+        None => text,
+    }
+}
+
+// What is sought in a text.
+#[derive(Clone, Copy)]
+enum Sought<'a> {
+    // The end of a line, which no blank continues.
+    LineEnd,
+    // A field of this name.
+    Field(&'a [u8]),
+    // A parameter of this name.
+    Parameter(&'a [u8]),
+}
+
+impl Sought<'_> {
+    // What stands there and behind it, or just behind it; in quotes there is no parameter.
+    fn at(self, quoted: bool, text: &[u8]) -> Option<&[u8]>
+        ensures { option_copied result ≡ said_at self.entry quoted text.now }
+    {
+        match self {
+            Sought::LineEnd => from_line_end(text),
+            Sought::Field(name) => after_front(
+                after_front(after_front(text, b"\r\n")?, name)?,
+                b":",
+            ),
+            Sought::Parameter(_) if quoted => None,
+            Sought::Parameter(name) => next(next(after_front(text, b";")?, name)?, b"="),
+        }
+    }
+}
+
+// From the end of a line on.
+fn from_line_end(text: &[u8]) -> Option<&[u8]>
+    ensures { option_copied result ≡ from_line_end text.now }
+{
+    if text.starts_with(b"\r\n") && !(text.len() > 2 && is_blank(text[2])) {
+        return Some(text);
+    }
+    None
+}
+
+// What the first place says that says something of what is sought.
+fn first_said<'a>(text: &'a [u8], sought: Sought<'_>) -> Option<&'a [u8]>
+    ensures { option_copied result ≡ first_said (said_at sought.entry) false text.now }
+{
+    let mut quoted = false;
+    for i in 0..text.len() {
+        match sought.at(quoted, &text[i..]) {
+            Some(said) => return Some(said),
+            None => quoted = is_quoted_behind(quoted, text[i]),
+        }
+    }
+    None
+}
+
+// Whether what follows a byte is in quotes.
+fn is_quoted_behind(quoted: bool, byte: u8) -> bool
+    ensures { result ≡ (if byte == 34 then not quoted else quoted) }
+{
+    if byte == b'"' { !quoted } else { quoted }
+}
+
+// Up to the end of the line.
+fn line(text: &[u8]) -> &[u8]
+    ensures { result.now ≡ line text.now }
+{
+    match first_said(text, Sought::LineEnd) {
+        Some(rest) => &text[..text.len().saturating_sub(rest.len())],
+        None => text,
+    }
+}
+
 /// The value of the first field of this name, whatever the case of its letters, in a head as
 /// [`head`](crate::Multipart::head) lends it.
 pub fn field<'a>(head: &'a [u8], name: &[u8]) -> Option<&'a [u8]>
     ensures value { option_copied result ≡ field_of head.now name.now }
 {
-    let mut left = Some(head);
-    while let Some(text) = left {
-        let (line, rest) = split_closed(text, Place::Line);
-        if let Some((found, value)) = as_pair(line, b':') {
-            if found.eq_ignore_ascii_case(name) {
-                return Some(value);
-            }
-        }
-        left = rest;
-    }
-    None
+    let value = first_said(head, Sought::Field(name))?;
+    Some(trimmed(line(value)))
 }
 
-// Where a byte stands.
-#[derive(Clone, Copy)]
-enum Place {
-    // In a line of a head.
-    Line,
-    // In one, behind a CR.
-    Return,
-    // In a value, outside of quotes.
-    Outside,
-    // In quotes.
-    Quoted,
-}
-
-impl Place {
-    // Whether the first of these bytes closes what began there: a line feed behind a CR, unless a blank follows, a line; `;` a
-    // piece outside of quotes; and a quote what stands in them.
-    fn closes(self, began: Place, text: &[u8]) -> bool
-        ensures { result ≡ closes began self text.now }
-    {
-        match (began, self) {
-            (Place::Line, Place::Return) => {
-                text.starts_with(b"\n") && !(text.len() > 1 && is_blank(text[1]))
-            }
-            (Place::Outside, Place::Outside) => text.starts_with(b";"),
-            (Place::Quoted, Place::Quoted) => text.starts_with(b"\""),
-            _ => false,
-        }
-    }
-
-    // Where the byte behind this one stands.
-    fn behind(self, byte: u8) -> Place
-        ensures { result ≡ next_place self byte }
-    {
-        match self {
-            Place::Line | Place::Return if byte == b'\r' => Place::Return,
-            Place::Line | Place::Return => Place::Line,
-            Place::Outside if byte == b'"' => Place::Quoted,
-            Place::Quoted if byte == b'"' => Place::Outside,
-            Place::Outside | Place::Quoted => self,
-        }
-    }
-}
-
-// What stands before the byte that closes what begins there, and what behind it, if one does.
-fn split_closed(text: &[u8], began: Place) -> (&[u8], Option<&[u8]>)
-    ensures parts { cut began began text.now ≡ result.0.now ∷ option_map_or (λ rest. cut began began rest.now) result.1 [] }
-    ensures shorter { IfSome result.1 (λ rest. length rest.now < length text.now) }
+// What is said behind `=`: what stands in quotes, as it stands, or else up to `;`.
+fn said(text: &[u8]) -> &[u8]
+    ensures { result.now ≡ said text.now }
 {
-    let mut place = began;
-    for i in 0..text.len() {
-        if place.closes(began, &text[i..]) {
-            return (&text[..i], Some(&text[i + 1..]));
-        }
-        place = place.behind(text[i]);
+    match next(text, b"\"") {
+        Some(quoted) => before(quoted, b'"'),
+        None => trimmed(before(text, b';')),
     }
-    (text, None)
-}
-
-// What is said behind `=`: what stands in quotes, as it stands, or else all.
-fn unquoted(text: &[u8]) -> &[u8]
-    ensures { result.now ≡ unquoted text.now }
-{
-    if text.starts_with(b"\"") {
-        return split_closed(&text[1..], Place::Quoted).0;
-    }
-    text
-}
-
-// A piece as a parameter: its name, and what it says.
-fn as_parameter(piece: &[u8]) -> Option<(&[u8], &[u8])>
-    ensures { option_map texts_of result ≡ as_parameter piece.now }
-{
-    let (name, said) = as_pair(piece, b'=')?;
-    Some((name.trim_ascii(), unquoted(said)))
 }
 
 /// What a parameter of a field's value says, as `name` of `form-data; name="a"`: what stands between its quotes, as it stands,
@@ -161,15 +182,5 @@ fn as_parameter(piece: &[u8]) -> Option<(&[u8], &[u8])>
 pub fn parameter<'a>(value: &'a [u8], name: &[u8]) -> Option<&'a [u8]>
     ensures value { option_copied result ≡ parameter_of value.now name.now }
 {
-    let (_, mut left) = split_closed(value, Place::Outside);
-    while let Some(text) = left {
-        let (piece, rest) = split_closed(text, Place::Outside);
-        if let Some((found, said)) = as_parameter(piece) {
-            if found.eq_ignore_ascii_case(name) {
-                return Some(said);
-            }
-        }
-        left = rest;
-    }
-    None
+    Some(said(first_said(value, Sought::Parameter(name))?))
 }

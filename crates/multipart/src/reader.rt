@@ -1,5 +1,5 @@
 //! The reader of parts.
-ghost use Rattle.std.specs.Prelude.{[], ◌≡◌, ◌≢◌, ◌<◌, ◌≤◌, ◌+◌, ◌⊎◌, ◌∷◌, ◌++◌, length, min, false, take, vec_items, Ok, IfErr, IfOk, IfSome, MatchBool};
+ghost use Rattle.std.specs.Prelude.{[], ◌≡◌, ◌≢◌, ◌<◌, ◌≤◌, ◌+◌, ◌⊎◌, ◌∷◌, ◌++◌, length, min, false, take, vec_items, Ok, IfErr, IfOk, IfSome, MatchBool, OnErr};
 ghost use Rattle.body_reader.specs.BodyReader.{ConsumesPayload, FillsPayload, IsBodyReader, ReadsPayload, TookWholeBody};
 ghost use Rattle.multipart.specs.Multipart.{AreCodings, CollectsOn, EndsHead, GoesOnFromHead, IsBegun, IsForm, LeavesText, NextPart, NoReaderMade, PassesText, TurnsLast, codes, head_most, is_full};
 
@@ -51,6 +51,7 @@ pub struct Multipart<R: Tell, P = StdPolicy> {
 }
 
 impl<R: Tell, P> Model for Multipart<R, P> {
+    ghost use Rattle.std.specs.Prelude.{vec_capacity};
     ghost use Rattle.multipart.specs.Multipart.{FormState, IsForm};
 
     ghost Value = { FormState R P };
@@ -59,6 +60,7 @@ impl<R: Tell, P> Model for Multipart<R, P> {
       body = m.body;
       other = m.other;
       head = m.head.items;
+      room = vec_capacity m.head;
       stand = m.stand;
       parts = m.parts;
       limits = m.limits;
@@ -68,6 +70,7 @@ impl<R: Tell, P> Model for Multipart<R, P> {
       body = m.body;
       other = m.other;
       head = m.head.items;
+      room = vec_capacity m.head;
       stand = m.stand;
       parts = m.parts;
       limits = m.limits;
@@ -250,7 +253,7 @@ impl<R: TellRead, P: ReaderPolicy> Multipart<R, P> {
     }
 
     /// Goes on to the next part, behind what is left of this one; `false` where there is none. An `Err` loses no byte, and a
-    /// further call goes on where this one stopped.
+    /// further call goes on where this one stopped. Memory is refused only where there was no room for more of a head.
     ///
     /// The stream is asked only where what is buffered settles nothing: for no byte behind the empty line of a head, nor behind
     /// the two hyphens of the last boundary, nor behind the first byte that can follow no boundary. Where there are
@@ -259,6 +262,7 @@ impl<R: TellRead, P: ReaderPolicy> Multipart<R, P> {
         ensures stands { IfOk result (λ more. MatchBool more
             ((self.new.stand ≡ Stand.Part) × (self.new.parts ≡ self.old.parts + 1))
             ((self.new.stand ≡ Stand.Ended) × (self.new.parts ≡ self.old.parts))) }
+        ensures kept { OnErr result (self.new.parts ≡ self.old.parts) }
         ensures next { NextPart R.remaining P.rules self.old.stand self.old result self.new }
     {
         match self.stand {

@@ -15,7 +15,7 @@ returns g c = rw (← c.self.view_is) (
   c.turn_last.new.heads,
   c.in_ok-drain.ensures.drains,
   (rw (c.is_full-full.ensures ∙ ap is_full (sym c.self.view_is)) at c.turn_last.ensures),
-  rw (c.begin_next.ensures.begun, c.begin_next.ensures.before, c.clear.ensures.items) refl,
+  rw (c.begin_next.ensures.begun, c.begin_next.ensures.before, c.clear.ensures.items, c.clear.ensures.capacity) refl,
 )
 
 pub invariant_of-self : goal.invariant_of-self
