@@ -1,18 +1,35 @@
 -- What was flushed before a step.
-use Rattle.std.proofs.Common.{◌≡◌, ◌↔◌, Bool, IsTrue, true, false, List, ℕ, Option, Result, Ok, Err, inl, inr, sym, ap, subst, ◌∙◌}
+use Rattle.std.proofs.Common.{◌≡◌, List, ℕ, ◌++◌, append_assoc, Option, Result, Ok, Err, inl, inr, ap, subst, ◌∙◌}
 use Rattle.std.specs.declared.io.Error.{Error}
 use Rattle.buffer_redux.specs.Buffered.{Buffered}
 use Rattle.buffer_redux.specs.StreamLog.{StreamLog}
-use Rattle.codec.specs.Fetching.{FlushedFirst, FlushesToAsk}
-use Rattle.piece_reader.specs.Grammar.{Grammar, IsLawful}
+use Rattle.codec.specs.Fetching.{FlushedFirst, FlushesToAsk, MustAsk}
+use Rattle.piece_reader.specs.Grammar.{Grammar, IsLawful, IsOpen}
 use Rattle.piece_reader.specs.NextPiece.{NextAnswer, NextPiece, StaysLeft}
-use Rattle.piece_reader.specs.NextPieceLaws.{AsksNone-settled}
-use Rattle.piece_reader.specs.PieceReader.{ReaderState}
-use Rattle.piece_reader.specs.StaysLeftLaws.{StaysLeft-next, StaysLeft-settled}
+use Rattle.piece_reader.specs.PieceReader.{ReaderState, rest}
+use Rattle.piece_reader.specs.StaysLeftLaws.{StaysLeft-next}
 
--- a test that failed
-pub untrue : {P : Type 0} (b : Bool) → b ≡ false → (IsTrue b ↔ P) → ¬ P
-untrue b isnt is p = let odd : b ≡ true = is.1 p in (let never : true ≡ false = sym odd ∙ isnt in cc)
+-- what settles nothing with more behind it settles nothing
+open_front : {V : Type 0} (g : Grammar V) → IsLawful g → (bytes more : List ℕ) → IsOpen g (bytes ++ more) → IsOpen g bytes
+open_front g law bytes more o = record {
+  no_piece = λ b. o.no_piece (record {
+    piece = b.piece;
+    payload = b.payload;
+    more = b.more ++ more;
+    is = b.is;
+    equal = ap (λ l. l ++ more) b.equal ∙ append_assoc b.piece b.more more;
+  });
+  not_wrong = λ e wrong. o.not_wrong e (law.stays bytes more e wrong);
+}
+
+-- a step that hasn't to ask doesn't
+asks_none : {S D V : Type 0} (remaining : S → Option (List ℕ)) (g : Grammar V) → IsLawful g → (s : ReaderState S D)
+    → ¬ (MustAsk g s) → (answer : NextAnswer V) (t : ReaderState S D) → NextPiece remaining g s answer t
+    → t.reader.log ≡ s.reader.log
+asks_none remaining g law s settled answer t next = elim next.asked [
+  | inl same ↦ same
+  | inr over ↦ absurd (settled (over.0, open_front g law (rest s) over.1.came over.1.such))
+]
 
 module _ {S D V : Type 0} (remaining : S → Option (List ℕ)) (grammar : D → Grammar V) (s m : ReaderState S D)
     (stays : StaysLeft (grammar s.decoder) s m) where
@@ -38,11 +55,10 @@ module _ {S D V : Type 0} (remaining : S → Option (List ℕ)) (grammar : D →
           | inl (settled, is, same) ↦
               inl (
                 same,
-                AsksNone-settled remaining (grammar s.decoder) law m settled answer t (stepped answer t next)
+                asks_none remaining (grammar s.decoder) law m settled answer t (stepped answer t next)
                     ∙ ap (λ x. x.reader.log) stays.same,
               )
-          | inr (unsettled, flushed) ↦
-              inr ((λ settled. unsettled (StaysLeft-settled remaining (grammar s.decoder) s m stays settled)), flushed)
+          | inr (must, flushed) ↦ inr (subst (MustAsk (grammar s.decoder)) stays.same must, flushed)
         ]
 
     -- where that fails there is no step
@@ -50,6 +66,5 @@ module _ {S D V : Type 0} (remaining : S → Option (List ℕ)) (grammar : D →
         → FlushedFirst tells trace (grammar s.decoder) s w {A = Unit {0}} (Err e) m v
     first_err e flushes = elim (subst (λ d. FlushesToAsk tells trace (grammar d) m w (Err e) v) told flushes) [
       | inl (settled, is, same) ↦ absurd (let odd : ◌≡◌ {A = Result (Unit {0}) Error} (Err e) (Ok tt) = is in cc)
-      | inr (unsettled, flushed) ↦
-          ((λ settled. unsettled (StaysLeft-settled remaining (grammar s.decoder) s m stays settled)), flushed, stays)
+      | inr (must, flushed) ↦ (subst (MustAsk (grammar s.decoder)) stays.same must, flushed, stays)
     ]

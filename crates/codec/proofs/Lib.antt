@@ -1,7 +1,7 @@
+pub mod Asking
 pub mod Fetched
 pub mod Playing
 pub mod Refusing
-pub mod Resuming
 pub mod Stepping
 pub mod Handover
 pub mod Turning

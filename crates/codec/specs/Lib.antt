@@ -27,6 +27,8 @@ pub use Rattle.piece_reader.specs.Trimming
 pub use Rattle.piece_reader.specs.TrimmingLaws
 pub mod Answering
 pub mod AnsweringLaws
+pub mod AskedAgain
+pub mod AskedAgainLaws
 pub mod CodecLaws
 pub mod DelimitedOut
 pub mod DelimitedOutLaws
@@ -34,6 +36,7 @@ pub mod Encoding
 pub mod Ended
 pub mod EndedLaws
 pub mod Fetching
+pub mod ExchangedLaws
 pub mod FirstByte
 pub mod FirstByteLaws
 pub mod HeadersOut
@@ -46,8 +49,6 @@ pub mod ReadsBack
 pub mod Scanning
 pub mod ScanningLaws
 pub mod Serving
-pub mod ServingAll
-pub mod ServingAllLaws
 pub mod ServingLaws
 pub mod Showing
 pub mod ShowingLaws

@@ -15,9 +15,10 @@ use Rattle.codec.specs.declared.serving.Served.TheVariants as served
 use Rattle.codec.specs.declared.serving.Step.{Step}
 use Rattle.codec.specs.declared.serving.Step.TheVariants as step
 use Rattle.codec.specs.Answering.{WritesOnce}
+use Rattle.codec.specs.AskedAgain.{StepRetried}
 use Rattle.codec.specs.Fetching.{FlushedFirst}
 use Rattle.piece_reader.specs.Grammar.{Grammar}
-use Rattle.piece_reader.specs.NextPiece.{NextAnswer, NextPiece, PiecesWent}
+use Rattle.piece_reader.specs.NextPiece.{NextAnswer, PiecesWent}
 use Rattle.piece_reader.specs.PieceReader.{ReaderState}
 
 -- the reader of pieces, what answers them, and the writer of answers
@@ -66,16 +67,25 @@ FlushesLast tells trace flushed w answer v =
 
 module _ {S D W I A T P : Type 0} (remaining : S → Option (List ℕ)) (tells : T → StreamLog) (trace : T → T → Type 0)
     (g : Grammar W) (item_of : List ℕ → I) (Answers : A → I → List ℕ → List ℕ → Bool → A → Type 0) where
-  -- answers were flushed if the stream had to be asked, and then this came of a step
+  -- just these pieces were taken, each was answered, and just the answers were written; the latest is first
+  pub record Exchanged (s : Server S D A T P) (exchanges : List Exchange) (more : Bool) (t : Server S D A T P) : Type 0 where
+    pub pieces : All (IsWholeExchange g) exchanges
+    pub taken : PiecesWent remaining g.most s.pieces (joined_parts (λ x. x.bytes) exchanges) t.pieces
+    pub service : Converses item_of Answers s.service exchanges more t.service
+    pub along : WritesAlong tells trace std_write_rules s.answers (joined_parts (λ x. x.reply) exchanges) t.answers
+
+module _ {S D W I A T P : Type 0} (limit : ℕ) (remaining : S → Option (List ℕ)) (tells : T → StreamLog)
+    (trace : T → T → Type 0) (g : Grammar W) (item_of : List ℕ → I) (Answers : A → I → List ℕ → List ℕ → Bool → A → Type 0) where
+  -- answers were flushed if the stream had to be asked, and then this came of a step, made again where it was interrupted
   pub record Fetched (s : Server S D A T P) (answer : NextAnswer W) (ready : Buffered T P) (t : ReaderState S D) : Type 0 where
-    pub next : NextPiece remaining g s.pieces answer t
+    pub steps : StepRetried limit remaining g s.pieces answer t
     pub first : FlushedFirst tells trace g s.pieces s.answers {A = Unit {0}} (Ok tt) t ready
 
   -- just this piece was taken, and its answer was written, by one write of parts
   pub record TookPiece (s : Server S D A T P) (x : Exchange) (more : Bool) (t : Server S D A T P) : Type 0 where
     pub ready : Buffered T P
     pub fetched : Fetched s (Ok (Some x.payload)) ready t.pieces
-    pub all : fetched.next.bytes ≡ x.bytes
+    pub all : fetched.steps.next.bytes ≡ x.bytes
     pub answers : Answers s.service (item_of x.bytes) x.payload x.reply more t.service
     pub written : WritesOnce tells trace ready x.reply t.answers
 
@@ -93,7 +103,7 @@ module _ {S D W I A T P : Type 0} (remaining : S → Option (List ℕ)) (tells :
   pub record AnswerFailed (s : Server S D A T P) (x : Exchange) (e : Error) (t : Server S D A T P) : Type 0 where
     pub ready : Buffered T P
     pub fetched : Fetched s (Ok (Some x.payload)) ready t.pieces
-    pub all : fetched.next.bytes ≡ x.bytes
+    pub all : fetched.steps.next.bytes ≡ x.bytes
     pub answers : (more : Bool) × Answers s.service (item_of x.bytes) x.payload x.reply more t.service
     pub written : WritesParts tells trace ready x.reply (Err e) t.answers
 
@@ -101,13 +111,6 @@ module _ {S D W I A T P : Type 0} (remaining : S → Option (List ℕ)) (tells :
   abbrev pub Talked : Server S D A T P → List Exchange → Bool → Server S D A T P → Type 0
   Talked s [] more t = (s ≡ t) × (more ≡ true)
   Talked s (x ∷ earlier) more t = (m : Server S D A T P) × Talked s earlier true m × TookPiece m x more t
-
-  -- just these pieces were taken, each was answered, and just the answers were written; the latest is first
-  pub record Exchanged (s : Server S D A T P) (exchanges : List Exchange) (more : Bool) (t : Server S D A T P) : Type 0 where
-    pub pieces : All (IsWholeExchange g) exchanges
-    pub taken : PiecesWent remaining g.most s.pieces (joined_parts (λ x. x.bytes) exchanges) t.pieces
-    pub service : Converses item_of Answers s.service exchanges more t.service
-    pub along : WritesAlong tells trace std_write_rules s.answers (joined_parts (λ x. x.reply) exchanges) t.answers
 
   -- how they ended
   abbrev pub EndedBy : Served → List Exchange → Bool → Server S D A T P → Server S D A T P → Type 0
@@ -137,7 +140,7 @@ module _ {S D W I A T P : Type 0} (remaining : S → Option (List ℕ)) (tells :
     pub record ServiceFailed (s : Server S D A T P) (why : F) (t : Server S D A T P) : Type 0 where
       pub payload : List ℕ
       pub fetched : Fetched s (Ok (Some payload)) t.answers t.pieces
-      pub fails : Fails s.service (item_of fetched.next.bytes) payload why t.service
+      pub fails : Fails s.service (item_of fetched.steps.next.bytes) payload why t.service
 
     -- what one turn does
     abbrev pub ServesTurn : Server S D A T P → Result Step (ServeError W F) → Server S D A T P → Type 0
@@ -164,4 +167,4 @@ module _ {S D W I A T P : Type 0} (remaining : S → Option (List ℕ)) (tells :
       pub last : Server S D A T P
       pub talked : Talked s exchanges more last
       pub fails : FailedBy e exchanges more last t
-      pub exchanged : Exchanged s exchanges more last
+      pub exchanged : Exchanged remaining tells trace g item_of Answers s exchanges more last

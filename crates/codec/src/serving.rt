@@ -1,19 +1,19 @@
 //! Pieces are answered, one after another.
-ghost use Rattle.std.specs.Prelude.{◌≡◌, ℕ, List, [], Bool, true, false, Err, IfOk, IfErr, OnOk};
+ghost use Rattle.std.specs.Prelude.{◌≡◌, ℕ, ◌+◌, ◌≤◌, List, [], length, Bool, Err, IfOk, IfErr, OnOk};
 ghost use Rattle.std.specs.declared.io.Error.{Error};
-ghost use Rattle.buffer_redux.specs.Faults.{IsInterrupt};
+ghost use Rattle.buffer_redux.specs.Faults.{IsInterrupt, failure_count, interrupt_limit};
 ghost use Rattle.codec.specs.declared.serving.ServeError.TheVariants.{Read};
 ghost use Rattle.codec.specs.Answering.{IsPieceRead, WasAnswered};
-ghost use Rattle.codec.specs.ServingAll.{NotInterrupted, ServesAll, StopsAll};
+ghost use Rattle.codec.specs.AskedAgain.{ReadsFailFew};
 ghost use Rattle.codec.specs.Serving.{Serves, ServesTurn, ServingEnds, ServingFails, is_flushed, server};
 
 use crate::answering::AnswerError;
-use crate::fetching::fetch_item;
-use buffer_redux::BufWriter;
+use crate::fetching::fetch_on;
 use buffer_redux::tell::{TellRead, TellWrite};
+use buffer_redux::{BufWriter, INTERRUPT_LIMIT};
 use piece_reader::{Items, NextError, PieceReader};
 use std::io;
-use std::io::{ErrorKind, Write};
+use std::io::Write;
 
 /// What answers the pieces of a protocol: a server, but for its streams.
 pub trait Service<D: Items> {
@@ -87,14 +87,54 @@ pub fn serve<R: TellRead, D: Items, W: TellWrite, S: Service<D>>(
     writer: &mut BufWriter<W>,
 ) -> Result<Served, ServeError<D::Wrong, S::Failure>>
     ensures flushed { OnOk result (writer.new.block.bytes ≡ []) }
-    ensures served { IfOk result (λ ended. Serves R.remaining W.log W.trace (D.grammar reader.old.decoder)
+    ensures served { IfOk result (λ ended. Serves 0 R.remaining W.log W.trace (D.grammar reader.old.decoder)
         (D.item_of reader.old.decoder) S.answers (server reader.old service.old writer.old) ended
         (server reader.new service.new writer.new)) }
-    ensures failed { IfErr result (λ e. ServingFails R.remaining W.log W.trace (D.grammar reader.old.decoder)
+    ensures failed { IfErr result (λ e. ServingFails 0 R.remaining W.log W.trace (D.grammar reader.old.decoder)
         (D.item_of reader.old.decoder) S.answers S.fails (server reader.old service.old writer.old) e
         (server reader.new service.new writer.new)) }
 {
-    let ends = answer_pieces(service, reader, writer)?;
+    serve_on(0, service, reader, writer)
+}
+
+/// Does as [`serve`], and asks again where a read was interrupted, without a further flush: up to
+/// [`INTERRUPT_LIMIT`](buffer_redux::INTERRUPT_LIMIT) times in a row, which begins anew where bytes came. Then it answers that.
+pub fn serve_all<R: TellRead, D: Items, W: TellWrite, S: Service<D>>(
+    service: &mut S,
+    reader: &mut PieceReader<R, D>,
+    writer: &mut BufWriter<W>,
+) -> Result<Served, ServeError<D::Wrong, S::Failure>>
+    ensures flushed { OnOk result (writer.new.block.bytes ≡ []) }
+    ensures few { ReadsFailFew (failure_count result) reader.old.reader.log.reads reader.new.reader.log.reads }
+    ensures often { (e : Error) → result ≡ Err (Read e) → IsInterrupt e
+        → length reader.old.reader.log.reads.faults + interrupt_limit + 1 ≤ length reader.new.reader.log.reads.faults }
+    ensures served { IfOk result (λ ended. Serves interrupt_limit R.remaining W.log W.trace (D.grammar reader.old.decoder)
+        (D.item_of reader.old.decoder) S.answers (server reader.old service.old writer.old) ended
+        (server reader.new service.new writer.new)) }
+    ensures failed { IfErr result (λ e. ServingFails interrupt_limit R.remaining W.log W.trace (D.grammar reader.old.decoder)
+        (D.item_of reader.old.decoder) S.answers S.fails (server reader.old service.old writer.old) e
+        (server reader.new service.new writer.new)) }
+{
+    serve_on(INTERRUPT_LIMIT, service, reader, writer)
+}
+
+// Serves, and asks again so often in a row.
+fn serve_on<R: TellRead, D: Items, W: TellWrite, S: Service<D>>(
+    limit: u32,
+    service: &mut S,
+    reader: &mut PieceReader<R, D>,
+    writer: &mut BufWriter<W>,
+) -> Result<Served, ServeError<D::Wrong, S::Failure>>
+    requires { limit ≤ interrupt_limit }
+    ensures flushed { OnOk result (writer.new.block.bytes ≡ []) }
+    ensures served { IfOk result (λ ended. Serves limit R.remaining W.log W.trace (D.grammar reader.old.decoder)
+        (D.item_of reader.old.decoder) S.answers (server reader.old service.old writer.old) ended
+        (server reader.new service.new writer.new)) }
+    ensures failed { IfErr result (λ e. ServingFails limit R.remaining W.log W.trace (D.grammar reader.old.decoder)
+        (D.item_of reader.old.decoder) S.answers S.fails (server reader.old service.old writer.old) e
+        (server reader.new service.new writer.new)) }
+{
+    let ends = answer_pieces(limit, service, reader, writer)?;
     if ends.1 {
         return Ok(ends.0);
     }
@@ -104,56 +144,24 @@ pub fn serve<R: TellRead, D: Items, W: TellWrite, S: Service<D>>(
     }
 }
 
-/// Does as [`serve`], and goes on where a read was interrupted; behind 2^64 - 1 interruptions it answers `TimedOut`.
-pub fn serve_all<R: TellRead, D: Items, W: TellWrite, S: Service<D>>(
-    service: &mut S,
-    reader: &mut PieceReader<R, D>,
-    writer: &mut BufWriter<W>,
-) -> Result<Served, ServeError<D::Wrong, S::Failure>>
-    ensures flushed { OnOk result (writer.new.block.bytes ≡ []) }
-    ensures served { IfOk result (λ ended. ServesAll R.remaining W.log W.trace (D.grammar reader.old.decoder)
-        (D.item_of reader.old.decoder) S.answers S.fails (server reader.old service.old writer.old) ended
-        (server reader.new service.new writer.new)) }
-    ensures failed { IfErr result (λ e. StopsAll R.remaining W.log W.trace (D.grammar reader.old.decoder)
-        (D.item_of reader.old.decoder) S.answers S.fails (server reader.old service.old writer.old) e
-        (server reader.new service.new writer.new)) }
-{
-    for _call in 0..u64::MAX {
-        let served = serve(service, reader, writer);
-        if !was_interrupted(&served) {
-            return served;
-        }
-    }
-    Err(ServeError::Read(io::Error::from(ErrorKind::TimedOut)))
-}
-
-// Whether a read was interrupted.
-fn was_interrupted<W, F>(served: &Result<Served, ServeError<W, F>>) -> bool
-    ensures yes { result ≡ true → (why : Error) × (served.now ≡ Err (Read why)) × IsInterrupt why }
-    ensures no { result ≡ false → IfErr served.now NotInterrupted }
-{
-    match served {
-        Err(ServeError::Read(e)) => e.kind() == ErrorKind::Interrupted,
-        _ => false,
-    }
-}
-
 // Serves, but for the last flush; and says whether all was flushed, as it is where the stream was asked for its end.
 fn answer_pieces<R: TellRead, D: Items, W: TellWrite, S: Service<D>>(
+    limit: u32,
     service: &mut S,
     reader: &mut PieceReader<R, D>,
     writer: &mut BufWriter<W>,
 ) -> Result<(Served, bool), ServeError<D::Wrong, S::Failure>>
-    ensures ended { IfOk result (λ by. (ends : ServingEnds R.remaining W.log W.trace (D.grammar reader.old.decoder)
+    requires { limit ≤ interrupt_limit }
+    ensures ended { IfOk result (λ by. (ends : ServingEnds limit R.remaining W.log W.trace (D.grammar reader.old.decoder)
         (D.item_of reader.old.decoder) S.answers (server reader.old service.old writer.old) by.0
         (server reader.new service.new writer.new)) × (by.1 ≡ is_flushed by.0 ends.last.pieces.ended)) }
-    ensures failed { IfErr result (λ e. ServingFails R.remaining W.log W.trace (D.grammar reader.old.decoder)
+    ensures failed { IfErr result (λ e. ServingFails limit R.remaining W.log W.trace (D.grammar reader.old.decoder)
         (D.item_of reader.old.decoder) S.answers S.fails (server reader.old service.old writer.old) e
         (server reader.new service.new writer.new)) }
 {
     for _turn in 0..u64::MAX {
         let told = reader.has_ended();
-        match turn(service, reader, writer)? {
+        match turn(limit, service, reader, writer)? {
             Step::Went => {}
             Step::Closed => return Ok((Served::Closed, false)),
             Step::End => return Ok((Served::End, !told)),
@@ -164,14 +172,16 @@ fn answer_pieces<R: TellRead, D: Items, W: TellWrite, S: Service<D>>(
 
 // Takes one piece, and answers it.
 fn turn<R: TellRead, D: Items, W: TellWrite, S: Service<D>>(
+    limit: u32,
     service: &mut S,
     reader: &mut PieceReader<R, D>,
     writer: &mut BufWriter<W>,
 ) -> Result<Step, ServeError<D::Wrong, S::Failure>>
-    ensures { ServesTurn R.remaining W.log W.trace (D.grammar reader.old.decoder) (D.item_of reader.old.decoder) S.answers S.fails
-        (server reader.old service.old writer.old) result (server reader.new service.new writer.new) }
+    requires { limit ≤ interrupt_limit }
+    ensures { ServesTurn limit R.remaining W.log W.trace (D.grammar reader.old.decoder) (D.item_of reader.old.decoder) S.answers
+        S.fails (server reader.old service.old writer.old) result (server reader.new service.new writer.new) }
 {
-    match fetch_item(reader, writer) {
+    match fetch_on(limit, reader, writer) {
         Ok(Ok(Some(said))) => match service.answer(said.0, reader.lent(said.1), writer) {
             Ok(true) => Ok(Step::Went),
             Ok(false) => Ok(Step::Closed),

@@ -2,9 +2,7 @@
 use Rattle.std.proofs.Common.{◌≡◌, ℕ, List, [], ◌∷◌, Bool, true, false, Option, ap, refl, ◌∙◌}
 use Rattle.std.specs.Prelude.{not}
 use Rattle.buffer_redux.specs.StreamLog.{StreamLog}
-use Rattle.codec.specs.Answering.{NeverFails}
-use Rattle.codec.specs.Serving.{Converses, EndedBy, Exchange, Server}
-use Rattle.codec.specs.ServingAll.{ServesAll}
+use Rattle.codec.specs.Serving.{Converses, EndedBy, Exchange, Server, Serves}
 use Rattle.decoders.specs.Resp.{resp, resp_item}
 use Rattle.resp.specs.Clients.{ends_as, tells_closed}
 use Rattle.resp.specs.Sessions.{RepliesBy, closes_by}
@@ -22,21 +20,20 @@ closes s [] more t (same, all) none = rw (← same, all) none
 closes s (x ∷ earlier) more t (between, before, (fed, waiting, feeds, replies, closed)) none =
     closed ∙ from_none more between.closed (closes s earlier true between before none)
 
-module _ {S D T P : Type 0} (remaining : S → Option (List ℕ)) (tells : T → StreamLog) (trace : T → T → Type 0)
+module _ {S D T P : Type 0} (limit : ℕ) (remaining : S → Option (List ℕ)) (tells : T → StreamLog) (trace : T → T → Type 0)
     (max : ℕ) where
   told : (e : Ending) (xs : List Exchange) (more : Bool) (s t : Server S D Session T P)
-      → EndedBy remaining tells trace (resp max) resp_item RepliesBy (ends_as e) xs more s t → (closed : Bool) → closed ≡ not more
-      → closed ≡ tells_closed e
+      → EndedBy limit remaining tells trace (resp max) resp_item RepliesBy (ends_as e) xs more s t
+      → (closed : Bool) → closed ≡ not more → closed ≡ tells_closed e
   told Closed xs more s t ends closed is = is ∙ ap not ends.0
   told End xs more s t ends closed is = is ∙ ap not ends.0
   told Within xs more s t ends closed is = is ∙ ap not ends.0
   told Many xs more s t ends closed is = is ∙ ap not ends.0
 
   pub closed_told : (s : Server S D Session T P) (e : Ending) (t : Server S D Session T P)
-      → ServesAll remaining tells trace (resp max) resp_item RepliesBy NeverFails s (ends_as e) t → s.service.closed ≡ false
+      → Serves limit remaining tells trace (resp max) resp_item RepliesBy s (ends_as e) t → s.service.closed ≡ false
       → t.service.closed ≡ tells_closed e
   closed_told s e t all none =
-      let ends = all.last.ends in
-      let before = closes s.service all.resumes.exchanges true all.between.service all.resumes.exchanged.service none in
+      let ends = all.ends in
       told e ends.exchanges ends.more ends.last _ ends.ends t.service.closed
-      (closes all.between.service ends.exchanges ends.more t.service all.last.service before)
+      (closes s.service ends.exchanges ends.more t.service all.service none)

@@ -4,10 +4,10 @@ ghost use Rattle.codec.specs.Answering.{NeverFails};
 ghost use Rattle.codec.specs.PieceReader.{IsFresh};
 ghost use Rattle.std.specs.declared.io.Error.{Error};
 ghost use Rattle.buffer_redux.specs.BufWriter.{WasFlushed};
+ghost use Rattle.buffer_redux.specs.Faults.{interrupt_limit};
 ghost use Rattle.codec.specs.declared.serving.ServeError.TheVariants.{Flush};
 ghost use Rattle.codec.specs.declared.serving.Served.TheVariants as served;
-ghost use Rattle.codec.specs.Serving.{server};
-ghost use Rattle.codec.specs.ServingAll.{ServesAll, StopsAll};
+ghost use Rattle.codec.specs.Serving.{Serves, ServingFails, server};
 ghost use Rattle.decoders.specs.Resp.{resp, resp_item};
 ghost use Rattle.resp.specs.Clients.{IsWithin, begun_of, closed_of, ends_as, pieces_of, serving, tells_closed};
 ghost use Rattle.resp.specs.Sessions.{RepliesBy, session_of};
@@ -101,12 +101,12 @@ impl<R: TellRead> Client<R> {
         ensures within { IfOk result (λ ending. IsWithin (begun_of self.new) ending) }
         ensures served { IfOk result (λ ending. MatchBool (closed_of self.old)
             (WasFlushed W.log W.trace replies.old (Ok tt) replies.new)
-            (ServesAll R.remaining W.log W.trace (resp (pieces_of self.old).decoder.max) resp_item RepliesBy NeverFails
+            (Serves interrupt_limit R.remaining W.log W.trace (resp (pieces_of self.old).decoder.max) resp_item RepliesBy
             (serving self.old store.old replies.old) (ends_as ending) (serving self.new store.new replies.new))) }
         ensures failed { IfErr result (λ e. MatchBool (closed_of self.old)
             ((why : Error) × (e ≡ Flush served.Closed why) × WasFlushed W.log W.trace replies.old (Err why) replies.new)
-            (StopsAll R.remaining W.log W.trace (resp (pieces_of self.old).decoder.max) resp_item RepliesBy NeverFails
-            (serving self.old store.old replies.old) e (serving self.new store.new replies.new))) }
+            (ServingFails interrupt_limit R.remaining W.log W.trace (resp (pieces_of self.old).decoder.max) resp_item RepliesBy
+            NeverFails (serving self.old store.old replies.old) e (serving self.new store.new replies.new))) }
     {
         if self.closed {
             return match replies.flush() {
@@ -126,12 +126,12 @@ impl<R: TellRead> Client<R> {
         ensures flushed { OnOk result (replies.new.block.bytes ≡ []) }
         ensures closes { IfOk result (λ answer. closed_of self.new ≡ tells_closed answer) }
         ensures within { IfOk result (λ ending. IsWithin (begun_of self.new) ending) }
-        ensures served { IfOk result (λ ending. ServesAll R.remaining W.log W.trace (resp (pieces_of self.old).decoder.max)
-            resp_item RepliesBy NeverFails
+        ensures served { IfOk result (λ ending. Serves interrupt_limit R.remaining W.log W.trace
+            (resp (pieces_of self.old).decoder.max) resp_item RepliesBy
             (server (pieces_of self.old) (session_of self.old.alloc self.old.request store.old false) replies.old)
             (ends_as ending) (serving self.new store.new replies.new)) }
-        ensures failed { IfErr result (λ e. StopsAll R.remaining W.log W.trace (resp (pieces_of self.old).decoder.max) resp_item
-            RepliesBy NeverFails
+        ensures failed { IfErr result (λ e. ServingFails interrupt_limit R.remaining W.log W.trace
+            (resp (pieces_of self.old).decoder.max) resp_item RepliesBy NeverFails
             (server (pieces_of self.old) (session_of self.old.alloc self.old.request store.old false) replies.old) e
             (serving self.new store.new replies.new)) }
     {

@@ -1,8 +1,8 @@
 //! A server that sends packets back as they came.
 ghost use Rattle.std.specs.Prelude.{IfErr, IfOk};
+ghost use Rattle.buffer_redux.specs.Faults.{interrupt_limit};
 ghost use Rattle.codec.specs.Answering.{NeverFails};
-ghost use Rattle.codec.specs.ServingAll.{ServesAll, StopsAll};
-ghost use Rattle.codec.specs.Serving.{server};
+ghost use Rattle.codec.specs.Serving.{Serves, ServingFails, server};
 ghost use Rattle.decoders.specs.Varints.{kind_pieces, piece_kind};
 ghost use Rattle.uses.specs.Echo.{echo, echoes};
 
@@ -53,11 +53,11 @@ pub fn echo_all<R: TellRead, W: TellWrite>(
     reader: &mut PieceReader<R, KindVarints>,
     writer: &mut BufWriter<W>,
 ) -> Result<Served, ServeError<HeaderError, Infallible>>
-    ensures served { IfOk result (λ ended. ServesAll R.remaining W.log W.trace
+    ensures served { IfOk result (λ ended. Serves interrupt_limit R.remaining W.log W.trace
         (kind_pieces reader.old.decoder.max) piece_kind echoes
-        NeverFails (server reader.old echo writer.old) ended (server reader.new echo writer.new)) }
-    ensures failed { IfErr result (λ e. StopsAll R.remaining W.log W.trace (kind_pieces reader.old.decoder.max) piece_kind echoes
-        NeverFails (server reader.old echo writer.old) e (server reader.new echo writer.new)) }
+        (server reader.old echo writer.old) ended (server reader.new echo writer.new)) }
+    ensures failed { IfErr result (λ e. ServingFails interrupt_limit R.remaining W.log W.trace
+        (kind_pieces reader.old.decoder.max) piece_kind echoes NeverFails (server reader.old echo writer.old) e (server reader.new echo writer.new)) }
 {
     serve_all(&mut Echo, reader, writer)
 }

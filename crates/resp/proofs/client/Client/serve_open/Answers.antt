@@ -14,7 +14,7 @@ returns-in-Ok-clause-served g c =
     (rw (c.new-session.ensures, c.replace-request.ensures.value, c.replace-values.ensures.value) at c.in-Ok.ensures.served)
 
 pub returns-in-Ok-clause-closes : goal.returns-in-Ok-clause-closes
-returns-in-Ok-clause-closes g c = closed_told _ _ _ _ _ _ _ (returns-in-Ok-clause-served g c) refl
+returns-in-Ok-clause-closes g c = closed_told _ _ _ _ _ _ _ _ (returns-in-Ok-clause-served g c) refl
 
 pub returns-in-Err-clause-failed : goal.returns-in-Err-clause-failed
 returns-in-Err-clause-failed g c =
