@@ -1,6 +1,7 @@
 //! Laws, each as the contract of a function over the calls. A law of calls assumes their exact relations, so no fact of few
 //! words stands in front.
 ghost use Rattle.std.specs.Prelude.{◌≡◌, ◌*◌, ◌^◌, ◌≤◌, ℕ, List, [], ◌∷◌, ◌++◌, IfErr, IfOk, IsOk, None, Ok, Option, Result};
+ghost use Rattle.std.specs.List.{flat_map};
 ghost use Rattle.buffer_redux.specs.Block.{Block};
 ghost use Rattle.buffer_redux.specs.BufWriter.{WritesInOrder};
 ghost use Rattle.buffer_redux.specs.GrowError.{FitsWithin};
@@ -12,7 +13,7 @@ ghost use Rattle.piece_reader.specs.KnownPayloads.{AnswersKnown};
 ghost use Rattle.piece_reader.specs.NextPiece.{NextAnswer, PiecesWent};
 ghost use Rattle.codec.specs.PieceWriter.{WriterState, IsMadeOver, IsUnused, unsent};
 ghost use Rattle.piece_reader.specs.PieceReader.{ReaderState, IsFresh, IsOver, TakenApart, left_of, rest, room_for};
-ghost use Rattle.piece_reader.specs.Runs.{Cuts, NextRuns, NoneTold, RunWent, all_handed};
+ghost use Rattle.piece_reader.specs.Runs.{Cuts, NextRuns, NoneTold, RunWent, handed_payload};
 ghost use Rattle.piece_reader.specs.Texts.{HasPieces, Splits};
 ghost use Rattle.codec.specs.WritePiece.{PiecesTaken};
 
@@ -64,12 +65,12 @@ pub fn written_since_new<W: TellWrite, E: Encoder>(writer: &PieceWriter<W, E>)
 
 /// A run of calls handed out just the bytes of its pieces, and what one did up to the end that it told is a text of them.
 pub fn went<R: TellRead, D: Decoder>(reader: &PieceReader<R, D>)
+    ensures text { (decoder : D) (answers : List (NextAnswer D.Wrong)) (bytes : List ℕ) → NoneTold answers
+        → Cuts (D.grammar decoder) (answers ++ Ok None ∷ []) bytes
+        → HasPieces (D.grammar decoder) bytes (flat_map handed_payload answers) }
     ensures went { (first : ReaderState R D) (answers : List (NextAnswer D.Wrong))
         → NextRuns R.remaining (D.grammar first.decoder) first answers reader.now
         → RunWent R.remaining (D.grammar first.decoder) first answers reader.now }
-    ensures text { (decoder : D) (answers : List (NextAnswer D.Wrong)) (bytes : List ℕ) → NoneTold answers
-        → Cuts (D.grammar decoder) (answers ++ Ok None ∷ []) bytes
-        → HasPieces (D.grammar decoder) bytes (all_handed answers) }
 {}
 
 /// Where just some payloads are left of a stream that is known, a call hands out the first, or answers `None` where there is

@@ -45,8 +45,8 @@ impl Decoder for Frames {
 
     #[inline(always)]
     fn decode(&self, bytes: &[u8], _seen: usize, _note: &mut ()) -> Found<FrameFault>
-        ensures finds { Decodes (framed self.now.max) bytes.now result }
         ensures looks { OnMore result (AsksFrame bytes.now) }
+        ensures finds { Decodes (framed self.now.max) bytes.now result }
     {
         if bytes.len() < HEADER {
             return Found::More(HEADER);
