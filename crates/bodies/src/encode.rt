@@ -68,7 +68,11 @@ fn encode_all<R: TellRead, W: TellWrite>(
             let (answer, target) = end(body);
             (answer, source, target)
         }
-        Err(stopped) => (Err(RunError::of(stopped.cause)), source, body.into_inner()),
+        Err(stopped) => (
+            Err(RunError::of(stopped.cause)),
+            source,
+            body.into_inner_torn(),
+        ),
     }
 }
 
@@ -82,6 +86,6 @@ fn end<W: TellWrite>(body: ChunkedWriter<W>) -> (Result<(), RunError<InputFault>
             Ok(()) => (Ok(()), target),
             Err(e) => (Err(RunError::Write(e)), target),
         },
-        Err(IntoInnerError(body, e)) => (Err(RunError::Write(e)), body.into_inner()),
+        Err(IntoInnerError(body, e)) => (Err(RunError::Write(e)), body.into_inner_torn()),
     }
 }

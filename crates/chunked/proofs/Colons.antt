@@ -1,7 +1,9 @@
 -- The first colon of a line is where the name ends, if the line is one of trailers.
-use Rattle.std.proofs.Common.{◌≡◌, ℕ, zero, suc, ◌+◌, ◌<◌, ◌≤◌, ◌==◌, true, List, [], ◌∷◌, ◌++◌, length, take, drop, slice_index, sym, ap, subst, ◌∙◌, arith, refl, append_assoc, length-append}
-use Rattle.chunked.specs.Names.{AllByRecursion, drop_at, drop_more, IsField, IsTokenByte, IsValueByte, take-append-drop, take_at}
+use Rattle.std.proofs.Common.{◌≡◌, ℕ, zero, suc, ◌<◌, ◌≤◌, ◌==◌, Bool, true, false, List, [], ◌∷◌, length, take, drop, slice_index, sym, ap, arith, inl, inr, refl}
+use Rattle.std.proofs.lemmas.List.Sums.{position_or_len_is}
+use Rattle.chunked.specs.Names.{AllByRecursion, BehindFirst, IsField, IsTokenByte, IsValueByte}
 use Rattle.chunked.specs.FieldLaws.{token_plain}
+use Rattle.chunked.specs.Trailers.{name_in}
 
 -- a colon stands at this place
 abbrev IsColonAt : List ℕ → ℕ → Type 0
@@ -11,55 +13,60 @@ IsColonAt line k = (slice_index line k == 58) ≡ true
 abbrev pub NoColonBefore : List ℕ → ℕ → Type 0
 NoColonBefore line end = (k : ℕ) → 0 ≤ k → k < end → ¬ IsColonAt line k
 
-colon_there : (name value : List ℕ) → IsColonAt (name ++ 58 ∷ value) (length name)
-colon_there [] value = refl
-colon_there (x ∷ name) value = colon_there name value
-
-name_ends : (name value : List ℕ) (end : ℕ) → AllByRecursion IsTokenByte name
-    → slice_index (name ++ 58 ∷ value) end ≡ 58 → NoColonBefore (name ++ 58 ∷ value) end → length name ≡ end
-name_ends [] value zero all is before = refl
-name_ends [] value (suc end) all is before = absurd (before 0 (omega arith) (omega arith) refl)
-name_ends (x ∷ name) value zero all is before = absurd ((token_plain x all.0).1 is)
-name_ends (x ∷ name) value (suc end) all is before =
-    ap suc (name_ends name value end all.1 is (λ k low high. before (suc k) (omega arith) (omega (arith, high))))
+later : (b : ℕ) (text : List ℕ) (end : ℕ) → NoColonBefore (b ∷ text) (suc end) → NoColonBefore text end
+later b text end before = λ k low high. before (suc k) (omega arith) (omega (arith, high))
 
 -- what stands in front of it and behind it
-pub record Splits (line : List ℕ) (end : ℕ) : Type 0 where
-  pub token : AllByRecursion IsTokenByte (take end line) × (0 < length (take end line))
-  pub all : AllByRecursion IsValueByte (drop (end + 1) line)
+abbrev pub Splits : List ℕ → ℕ → Type 0
+Splits text end = AllByRecursion IsTokenByte (take end text) × AllByRecursion IsValueByte (drop (suc end) text)
 
-split : (line name value : List ℕ) (end : ℕ) → line ≡ name ++ 58 ∷ value → AllByRecursion IsTokenByte name × (0 < length name)
-    → AllByRecursion IsValueByte value → length name ≡ end → Splits line end
-split line name value end same token all ends =
-    let long : length (name ++ 58 ∷ []) ≡ end + 1 = omega (arith, ends, length-append name (58 ∷ [])) in
-    record {
-      token = rw (same, take_at name (58 ∷ value) end ends) token;
-      all = rw (same ∙ sym (append_assoc name (58 ∷ []) value), drop_at (name ++ 58 ∷ []) value (end + 1) long) all;
-    }
+behind_splits : (text : List ℕ) (end : ℕ) → slice_index text end ≡ 58 → NoColonBefore text end → BehindFirst text
+    → Splits text end
+behind_splits [] end is before odd = absurd odd
+behind_splits (b ∷ text) zero is before (inl (colon, all)) = (tt, all)
+behind_splits (b ∷ text) zero is before (inr (token, more)) = absurd ((token_plain b token).1 is)
+behind_splits (b ∷ text) (suc end) is before (inl (colon, all)) =
+    absurd (before 0 (omega arith) (omega arith) (let same : b == 58 ≡ true = rw colon refl in same))
+behind_splits (b ∷ text) (suc end) is before (inr (token, more)) =
+    let s = behind_splits text end is (later b text end before) more in ((token, s.0), s.1)
 
-module _ (line : List ℕ) (end : ℕ) (is : slice_index line end ≡ 58) (before : NoColonBefore line end) (f : IsField line) where
-  name_length : length f.name ≡ end
-  name_length =
-      name_ends f.name f.value end f.token.0 (sym (ap (λ l. slice_index l end) f.equal) ∙ is)
-      (subst (λ l. NoColonBefore l end) f.equal before)
+splits_behind : (text : List ℕ) (end : ℕ) → end < length text → slice_index text end ≡ 58 → Splits text end → BehindFirst text
+splits_behind [] end within is s = absurd (omega (arith, within))
+splits_behind (b ∷ text) zero within is s = inl (is, s.1)
+splits_behind (b ∷ text) (suc end) within is s =
+    inr (s.0.0, splits_behind text end (omega (arith, within)) is (s.0.1, s.1))
 
-  pub field_splits : Splits line end
-  field_splits = split line f.name f.value end f.equal f.token f.all name_length
+pub field_splits : (line : List ℕ) (end : ℕ) → slice_index line end ≡ 58 → NoColonBefore line end → IsField line
+    → Splits line end × (0 < length (take end line))
+field_splits [] end is before odd = absurd odd
+field_splits (b ∷ text) zero is before (token, more) = absurd ((token_plain b token).1 is)
+field_splits (b ∷ text) (suc end) is before (token, more) =
+    let s = behind_splits text end is (later b text end before) more in (((token, s.0), s.1), omega arith)
 
-  -- the name stands in front of it
-  pub field_name : take end line ≡ f.name
-  field_name = ap (take end) f.equal ∙ take_at f.name (58 ∷ f.value) end name_length
+pub splits_field : (line : List ℕ) (end : ℕ) → end < length line → slice_index line end ≡ 58 → Splits line end
+    → 0 < length (take end line) → IsField line
+splits_field [] end within is s some = absurd (omega (arith, within))
+splits_field (b ∷ text) zero within is s some = absurd (omega (arith, some))
+splits_field (b ∷ text) (suc end) within is s some =
+    (s.0.0, splits_behind text end (omega (arith, within)) is (s.0.1, s.1))
 
-pub splits_field : (line : List ℕ) (end : ℕ) → end < length line → slice_index line end ≡ 58 → Splits line end → IsField line
-splits_field line end within is s = record {
-  name = take end line;
-  value = drop (end + 1) line;
-  equal = sym (take-append-drop end line) ∙ ap (λ l. take end line ++ l) (rw (drop_more line end 0 within, is));
-  token = s.token;
-  all = s.all;
-}
+no_colon : (text : List ℕ) → NoColonBefore text (length text) → BehindFirst text → ⊥
+no_colon [] none odd = odd
+no_colon (b ∷ text) none (inl (colon, all)) =
+    none 0 (omega arith) (omega arith) (let same : b == 58 ≡ true = rw colon refl in same)
+no_colon (b ∷ text) none (inr (token, more)) = no_colon text (later b text (length text) none) more
 
 pub field_has_colon : (line : List ℕ) → NoColonBefore line (length line) → IsField line → ⊥
-field_has_colon line none f =
-    none (length f.name) (omega arith) (omega (arith, ap length f.equal, length-append f.name (58 ∷ f.value)))
-    (subst (λ l. IsColonAt l (length f.name)) (sym f.equal) (colon_there f.name f.value))
+field_has_colon [] none odd = odd
+field_has_colon (b ∷ text) none (token, more) = no_colon text (later b text (length text) none) more
+
+not_true : (test : Bool) → ¬ (test ≡ true) → test ≡ false
+not_true true odd = absurd (odd refl)
+not_true false odd = refl
+
+-- the name stands in front of it
+pub first_colon : (line : List ℕ) (end : ℕ) → end < length line → slice_index line end ≡ 58 → NoColonBefore line end
+    → take end line ≡ name_in line
+first_colon line end within is before =
+    ap (λ k. take k line) (sym (position_or_len_is (λ b. b == 58) line end 0 (omega (arith, within))
+    (λ k low. not_true (slice_index line k == 58) (before k (omega arith) low)) (λ _. rw is refl)))

@@ -1,7 +1,7 @@
 -- What payload that goes on in a chunk does, and what a chunk does that is begun.
 use Rattle.std.proofs.Common.{◌≡◌, ℕ, zero, suc, ◌+◌, ◌-◌, ◌^◌, ◌<◌, ◌≤◌, List, [], ◌++◌, length, min, take, Result, Ok, Err, MatchResult, sym, ap, subst, ◌∙◌, arith, inl, inr, refl, append_assoc, append-nil}
 use Rattle.chunked.specs.Names.{accepted_of, after_write, around, Buffered, cases_lt, chunk_begun, chunk_end, ChunkedWriterState, CopiesSizeLine, Error, GoesDirect, greatest, HasBegun, InnerWent, IsBlock, IsChunkedWriter, IsChunks, IsNoted, length-take, length-take-le, MakesRoom, MakesSpace, PayloadWent, portion, PutsIn, room, StdPolicy, StreamLog, take-take, take_all, take_min, TakesSome, TakesThere, WentOn, with_block, WritesChunk}
-use Rattle.chunked.specs.ChunkLaws.{HasBegun-begins, HasBegun-ends, HasBegun-more}
+use Rattle.chunked.specs.ChunkLaws.{HasBegun-ends, HasBegun-more}
 use Rattle.chunked.specs.ChunkedWriterLaws.{PayloadWent-joins}
 use Rattle.chunked.proofs.Writing.{WentIn, nothing_went, payload_went, puts_went, space_went, went_on}
 
@@ -173,21 +173,6 @@ module _ {S : Type 0} (tells : S → StreamLog) (trace : S → S → Type 0) (no
   -- a chunk was begun, behind whole ones
   module _ (s : ChunkedWriterState S) (is : IsChunkedWriter s) (between : s.due ≡ 0) (size : ℕ) (small : size < 2 ^ 62)
     where
-      pub begun_whole : (some : 0 < size) (m t : Buffered S StdPolicy) → MakesSpace tells trace around s.writer (Ok tt) m
-          → PutsIn m (chunk_begun size []) t → (wire : List ℕ) → wire ≡ s.wire ++ chunk_begun size []
-          → IsChunkedWriter (record s { writer = t; wire = wire; due = size })
-      begun_whole some m t made puts wire wired = record {
-        whole = λ none. absurd (omega (arith, none, some));
-        begun = λ _. rw wired (HasBegun-begins size s.wire (accepted_of s) small (is.whole between));
-        block = puts.whole;
-        capacity = omega (
-          arith,
-          puts.capacity,
-          (space_went tells trace none joins s.writer m around (Ok tt) is.block made).capacity,
-          is.capacity,
-        );
-      }
-
       begun_went : (t : ChunkedWriterState S) → CopiesSizeLine tells trace size s (Ok tt) t
           → PayloadWent trace s (chunk_begun size []) [] t
       begun_went t b =
@@ -206,20 +191,6 @@ module _ {S : Type 0} (tells : S → StreamLog) (trace : S → S → Type 0) (no
 
   -- a write within a chunk, and one that begins a chunk
   module _ (s : ChunkedWriterState S) (payload : List ℕ) (some : 0 < length payload) where
-    pub wrote_on : 0 < s.due → (answer : Result ℕ Error) (t : ChunkedWriterState S) → WentOn tells trace s payload answer t
-        → WritesChunk tells trace s payload answer t
-    wrote_on within answer t went = record {
-      went = went.went;
-      nothing = λ nothing. absurd (omega (arith, nothing, some));
-      chunks = λ between _. absurd (omega (arith, within, between));
-      fits = λ _ between _. absurd (omega (arith, within, between));
-      full = λ _ between _ _. absurd (omega (arith, within, between));
-      begins = λ between _. absurd (omega (arith, within, between));
-      goes_on = λ _ _. went.goes;
-      noted = went.noted;
-      whole = went.whole;
-    }
-
     noted_on : (b t : ChunkedWriterState S) (answer : Result ℕ Error) → b.calls ≡ s.calls → IsNoted b payload answer t
         → IsNoted s payload answer t
     noted_on b t (Ok n) same noted = noted ∙ ap (λ l. after_write l payload (Ok n)) same

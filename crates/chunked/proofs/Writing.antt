@@ -1,6 +1,6 @@
 -- What goes into a buffered writer, and what a whole chunk and the end of a body do there.
 use Rattle.std.proofs.Common.{◌≡◌, ℕ, zero, suc, ◌+◌, ◌^◌, ◌<◌, ◌≤◌, List, [], ◌∷◌, ◌++◌, length, take, Result, Ok, Err, sym, ap, subst, ◌∙◌, arith, inl, inr, refl, append-nil}
-use Rattle.chunked.specs.Names.{accepted_of, after_flush, after_write, All, All-cons, All-nil, AllByRecursion, around, Block, body_end, Buffered, cases_lt, chunk, ChunkedWriterState, ChunkingWent, ChunksWent, Error, Finishes, HasBegun, IsBlock, IsCarried, IsChunkedWriter, IsChunks, IsTrailer, Kind, limit_of, MakesSpace, PayloadWent, Plain, PutsIn, PutsIn-order, Ring, room, SendsFirst, StdPolicy, StreamLog, take_all, taken_payloads, WriteLogGrows-flush, WritesChunk, WritesInOrder-contents, WritesInOrder-joins, WritesInOrder-none}
+use Rattle.chunked.specs.Names.{accepted_of, after_write, All, All-cons, All-nil, AllByRecursion, around, Block, body_end, Buffered, cases_lt, chunk, ChunkedWriterState, ChunksWent, Error, Finishes, HasBegun, IsBlock, IsCarried, IsChunkedWriter, IsChunks, IsTrailer, Kind, limit_of, MakesSpace, PayloadWent, Plain, PutsIn, PutsIn-order, Ring, room, SendsFirst, StdPolicy, StreamLog, take_all, taken_payloads, WritesChunk, WritesInOrder-contents, WritesInOrder-joins, WritesInOrder-none}
 use Rattle.buffer_redux.specs.BufWriter.{WasSent, WritesInOrder}
 use Rattle.chunked.specs.ChunkLaws.{IsChunks-body, IsChunks-joins}
 use Rattle.chunked.specs.TrailersLaws.{trailers_are_fields}
@@ -257,26 +257,3 @@ module _ {S : Type 0} (tells : S → StreamLog) (trace : S → S → Type 0) (no
       → Finishes tells trace s fields t
       → t.log.writes.received ++ t.block.bytes ≡ (s.writer.log.writes.received ++ s.writer.block.bytes) ++ body_end fields
   ended s fields t finishes = WritesInOrder-contents s.writer t (body_end fields) finishes.in_order
-
-  -- a flush that is told took nothing in
-  pub flush_went : (s m v : ChunkedWriterState S) (answer : Result (Unit {0}) Error) (calls : StreamLog) → v ≡ m
-      → ChunksWent trace s [] m → m.calls ≡ s.calls → calls ≡ after_flush v.calls answer
-      → ChunkingWent trace s (record v { calls = calls })
-  flush_went s m v answer calls same went still noted =
-      let before : v.calls ≡ s.calls = ap (λ c. c.calls) same ∙ still in
-      let told : calls ≡ after_flush s.calls answer = noted ∙ ap (λ l. after_flush l answer) before in
-      let went : PayloadWent trace s [] [] v = rw same went.went in
-      record {
-        bytes = [];
-        payload = [];
-        went = record {
-          in_order = went.in_order;
-          wire = went.wire;
-          accepted = ap (λ l. l.writes.received) told ∙ sym (append-nil (accepted_of s));
-          calls = went.calls;
-          noted = went.noted;
-          capacity = went.capacity;
-          limit = went.limit;
-        };
-        grows = rw told (WriteLogGrows-flush s.calls answer);
-      }

@@ -5,7 +5,6 @@ pub mod Within
 pub mod Body
 pub mod FieldLaws
 pub mod WithinLaws
-pub mod BodyLaws
 pub mod Place
 pub mod PlaceLaws
 pub mod LineLaws
@@ -15,6 +14,7 @@ pub mod AliveLaws
 pub mod Coding
 pub mod Steps
 pub mod StepLaws
+pub mod BodyLaws
 pub mod CodingLaws
 pub mod Trailers
 pub mod TrailersLaws

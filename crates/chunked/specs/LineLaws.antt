@@ -1,7 +1,7 @@
 -- The lines of a body go on from byte to byte.
-use Rattle.std.proofs.Common.{◌≡◌, ℕ, zero, suc, ◌+◌, ◌*◌, ◌-◌, ◌<◌, ◌≤◌, ◌⊎◌, ◌^◌, List, [], ◌∷◌, ◌++◌, length, sym, ap, subst, ◌∙◌, arith, inl, inr, refl, append_assoc, length-append, zero-add}
-use Rattle.chunked.specs.Names.{AllByRecursion, AllDigits, Behind, BehindFirst, BehindSize, CompletesData, CompletesSize, CompletesSizeLine, concat, digit_value, digits_value_after, EndsLine, fields_bytes, HasChunks, IsBodyOfChunks, IsExtension, IsField, IsSizeLine, IsTokenByte, IsTrailers, Limits, line_end, line_room, LineFeedThen}
-use Rattle.chunked.specs.FieldLaws.{BehindFirst-some, IsField-first, IsField-none, IsField-of}
+use Rattle.std.proofs.Common.{◌≡◌, ℕ, zero, suc, ◌+◌, ◌*◌, ◌-◌, ◌<◌, ◌≤◌, ◌⊎◌, ◌^◌, List, [], ◌∷◌, ◌++◌, length, sym, ap, subst, ◌∙◌, arith, inl, inr, refl}
+use Rattle.chunked.specs.Names.{BehindFirst, BehindSize, CompletesData, concat, digit_value, EndsLine, EndsSize, HasChunks, HasFields, IsBodyOfChunks, IsExtension, IsTokenByte, IsTrailers, Limits, line_end, LineFeedThen}
+use Rattle.chunked.specs.FieldLaws.{BehindFirst-some}
 
 -- in a line: its text, what stands behind it, and how much of the room is left
 abbrev pub LineParts : (List ℕ → Type 0) → (ℕ → List ℕ → Type 0) → ℕ → List ℕ → Type 0
@@ -27,16 +27,69 @@ line_ends IsText GoesOn (b ∷ text) behind room left is fits goes_on = inr (
   line_ends (λ t. IsText (b ∷ t)) GoesOn text behind (room - 1) left is (omega (arith, fits)) goes_on,
 )
 
-pub line_as : (P Q : List ℕ → Type 0) (GoesOn : ℕ → List ℕ → Type 0) (room : ℕ) (rest : List ℕ)
-    → ((text : List ℕ) → P text → Q text) → EndsLine P GoesOn room rest → EndsLine Q GoesOn room rest
-line_as P Q GoesOn room [] as' e = e
-line_as P Q GoesOn room (b ∷ rest) as' (inl (is, none, feed)) = inl (is, as' [] none, feed)
-line_as P Q GoesOn room (b ∷ rest) as' (inr (some, later)) =
-    inr (some, line_as (λ t. P (b ∷ t)) (λ t. Q (b ∷ t)) GoesOn (room - 1) rest (λ t. as' (b ∷ t)) later)
+-- a line is one by another name, where its text is, and what stands behind it goes on so
+pub line_as : (P Q : List ℕ → Type 0) (G H : ℕ → List ℕ → Type 0) (room : ℕ) (rest : List ℕ)
+    → ((text : List ℕ) → P text → Q text) → ((left : ℕ) (behind : List ℕ) → G left behind → H left behind)
+    → EndsLine P G room rest → EndsLine Q H room rest
+line_as P Q G H room rest as' on line =
+    let p = line_parts P G room rest line in
+    subst (EndsLine Q H room) (sym p.3) (line_ends Q H p.0 p.1 room p.2 (as' p.0 p.4) p.5 (on p.2 p.1 p.6))
+
+pub text_as : (P Q : List ℕ → Type 0) (G : ℕ → List ℕ → Type 0) (room : ℕ) (rest : List ℕ)
+    → ((text : List ℕ) → P text → Q text) → EndsLine P G room rest → EndsLine Q G room rest
+text_as P Q G room rest as' line = line_as P Q G G room rest as' (λ left behind goes_on. goes_on) line
+
+-- and it is one with more room
+pub line_wide : (P : List ℕ → Type 0) (G : ℕ → List ℕ → Type 0) (room more : ℕ) (rest : List ℕ) → room ≤ more
+    → ((left up : ℕ) (behind : List ℕ) → left ≤ up → G left behind → G up behind) → EndsLine P G room rest
+    → EndsLine P G more rest
+line_wide P G room more rest wide on line =
+    let p = line_parts P G room rest line in
+    let left = more - length p.0 in
+    subst (EndsLine P G more) (sym p.3) (line_ends P G p.0 p.1 more left p.4 (omega (arith, p.5, wide))
+    (on p.2 left p.1 (omega (arith, p.5, wide)) p.6))
+
+-- what is behind a line is known
+line_out : {A : Type 0} (P : List ℕ → Type 0) (G : A → ℕ → List ℕ → Type 0) (room : ℕ) (rest : List ℕ)
+    → EndsLine P (λ left behind. (a : A) × G a left behind) room rest → (a : A) × EndsLine P (G a) room rest
+line_out {A} P G room rest line =
+    let p = line_parts P (λ left behind. (a : A) × G a left behind) room rest line in
+    (p.6.0, subst (EndsLine P (G p.6.0) room) (sym p.3) (line_ends P (G p.6.0) p.0 p.1 room p.2 p.4 p.5 p.6.1))
+
+-- the same of the line of a size
+pub size_as : (G H : ℕ → List ℕ → Type 0) → ((size : ℕ) (behind : List ℕ) → G size behind → H size behind)
+    → (number room more : ℕ) (rest : List ℕ) → room ≤ more → EndsSize G number room rest → EndsSize H number more rest
+size_as G H on number room more [] wide odd = odd
+size_as G H on number room more (b ∷ rest) wide (inl (digit, some, line)) = inl (
+  digit,
+  omega (arith, some, wide),
+  size_as G H on (number * 16 + digit_value b) (room - 1) (more - 1) rest (omega (arith, wide)) line,
+)
+size_as G H on number room more (b ∷ rest) wide (inr (line, small)) = inr (
+  line_wide IsExtension (λ left. H number) room more (b ∷ rest) wide (λ left up behind fits goes_on. goes_on)
+      (line_as IsExtension IsExtension (λ left. G number) (λ left. H number) room (b ∷ rest) (λ text is. is)
+      (λ left. on number) line),
+  small,
+)
+
+size_out : {A : Type 0} (G : A → ℕ → List ℕ → Type 0) (number room : ℕ) (rest : List ℕ)
+    → EndsSize (λ size behind. (a : A) × G a size behind) number room rest → (a : A) × EndsSize (G a) number room rest
+size_out G number room [] odd = absurd odd
+size_out G number room (b ∷ rest) (inl (digit, some, line)) =
+    let (a, out) = size_out G (number * 16 + digit_value b) (room - 1) rest line in (a, inl (digit, some, out))
+size_out G number room (b ∷ rest) (inr (line, small)) =
+    let (a, out) = line_out IsExtension (λ a left. G a number) room (b ∷ rest) line in (a, inr (out, small))
+
+-- the number so far is no larger than the size
+pub size_small : (G : ℕ → List ℕ → Type 0) (number room : ℕ) (rest : List ℕ) → EndsSize G number room rest → number < 2 ^ 62
+size_small G number room [] odd = absurd odd
+size_small G number room (b ∷ rest) (inl line) =
+    omega (arith, size_small G (number * 16 + digit_value b) (room - 1) rest line.2)
+size_small G number room (b ∷ rest) (inr line) = line.1
 
 module _ (limits : Limits) where
   -- payload that is left of a chunk
-  pub data_ends : (p behind later : List ℕ) → IsBodyOfChunks limits behind later
+  data_ends : (p behind later : List ℕ) → IsBodyOfChunks limits behind later
       → CompletesData limits (length p) (p ++ line_end behind) (p ++ later)
   data_ends [] behind later body = (refl, (refl, body))
   data_ends (x ∷ p) behind later body = (p ++ later, refl, data_ends p behind later body)
@@ -54,176 +107,69 @@ module _ (limits : Limits) where
       let p = data_parts left rest later c in
       (b ∷ p.0, p.1, p.2, ap suc p.3, ap (λ l. b ∷ l) p.4, same ∙ ap (λ l. b ∷ l) p.5, p.6)
 
-  -- a body begins with the line of a size, and what stands behind that goes by the size
-  begins_line : (bytes payload : List ℕ) (ps : List (List ℕ)) → HasChunks limits ps bytes → payload ≡ concat ps
-      → (size : ℕ) × (text : List ℕ) × (behind : List ℕ) × IsSizeLine (line_room limits) size text
-      × (bytes ≡ text ++ line_end behind) × BehindSize limits size behind payload
-  begins_line bytes payload [] (behind, h, trailers) is = (0, h.text, behind, h.size_line, h.equal, (is, trailers))
-  begins_line bytes payload ([] ∷ ps) (behind, h, some, more) is = absurd (omega (arith, some))
-  begins_line bytes payload ((x ∷ p) ∷ ps) (behind, h, some, more) is = (
-    length (x ∷ p),
-    h.text,
-    (x ∷ p) ++ line_end behind,
-    h.size_line,
-    h.equal,
-    rw is (data_ends (x ∷ p) behind (concat ps) (record { payloads = ps; chunks = more; equal = refl })),
-  )
+  -- what stands behind the line of a size goes by the size, and by the payloads that are to come
+  by_size : (ps : List (List ℕ)) (payload : List ℕ) → payload ≡ concat ps → (size : ℕ) (behind : List ℕ)
+      → HasChunks limits ps size behind → BehindSize limits size behind payload
+  by_size [] payload all size behind (none, trailers) = rw none (all, trailers)
+  by_size ([] ∷ ps) payload all size behind (is, some, rest, same, more) = absurd (omega (arith, is, some))
+  by_size ((x ∷ p) ∷ ps) payload all size behind (is, some, rest, same, more) =
+      rw (is, same, all)
+      (data_ends (x ∷ p) rest (concat ps) (record { payloads = ps; chunks = more; equal = refl }))
 
-  body_of : (size : ℕ) (bytes payload text behind : List ℕ) → IsSizeLine (line_room limits) size text
-      → bytes ≡ text ++ line_end behind → BehindSize limits size behind payload → IsBodyOfChunks limits bytes payload
-  body_of zero bytes payload text behind size_line is (none, trailers) = record {
-    payloads = [];
-    chunks = (behind, record { text = text; size_line = size_line; equal = is }, trailers);
-    equal = none;
-  }
-  body_of (suc n) bytes payload text behind size_line is c = let p = data_parts (suc n) behind payload c in record {
-    payloads = p.0 ∷ p.6.payloads;
-    chunks = (
-      p.1,
-      record {
-        text = text;
-        size_line = rw p.3 size_line;
-        equal = is ∙ ap (λ l. text ++ line_end l) p.4;
-      },
-      omega (arith, p.3),
-      p.6.chunks,
-    );
-    equal = p.5 ∙ ap (λ l. p.0 ++ l) p.6.equal;
-  }
+  -- payloads that are all of this
+  abbrev Payloads : List ℕ → Type 0
+  Payloads payload = (ps : List (List ℕ)) × (payload ≡ concat ps)
 
-  -- where no further digit comes, an extension does
-  of_extension : (number room : ℕ) (bytes payload : List ℕ) → CompletesSizeLine limits Behind number room bytes payload
-      → CompletesSize limits number room bytes payload
-  of_extension number room [] payload c = absurd c.0
-  of_extension number room (b ∷ bytes) payload c = inr c
-
-  size_ends : (digits extension behind payload : List ℕ) (number room : ℕ) → AllDigits 16 digits
-      → digits_value_after 16 number digits < 2 ^ 62 → IsExtension extension → length digits + length extension ≤ room
-      → BehindSize limits (digits_value_after 16 number digits) behind payload
-      → CompletesSize limits number room (digits ++ (extension ++ line_end behind)) payload
-  size_ends [] extension behind payload number room all small follows fits goes_on =
-      of_extension number room (extension ++ line_end behind) payload (
-        line_ends IsExtension (λ left behind. BehindSize limits number behind payload) extension behind room
-            (room - length extension) follows (omega (arith, fits)) goes_on,
-        small,
-      )
-  size_ends (d ∷ digits) extension behind payload number room all small follows fits goes_on = inl (
-    all.0,
-    omega (arith, fits),
-    size_ends digits extension behind payload (number * 16 + digit_value d) (room - 1) all.1 small follows
-        (omega (arith, fits)) goes_on,
-  )
-
-  abbrev SizeParts : ℕ → ℕ → List ℕ → List ℕ → Type 0
-  SizeParts number room rest payload = (digits : List ℕ) × (extension : List ℕ) × (behind : List ℕ)
-      × (rest ≡ digits ++ (extension ++ line_end behind)) × AllDigits 16 digits × IsExtension extension
-      × (digits_value_after 16 number digits < 2 ^ 62) × (length digits + length extension ≤ room)
-      × BehindSize limits (digits_value_after 16 number digits) behind payload
-
-  size_parts : (number room : ℕ) (rest payload : List ℕ) → CompletesSize limits number room rest payload
-      → SizeParts number room rest payload
-  size_parts number room [] payload odd = absurd odd
-  size_parts number room (b ∷ rest) payload (inl (digit, some, c)) =
-      let p = size_parts (number * 16 + digit_value b) (room - 1) rest payload c in
-      (b ∷ p.0, p.1, p.2, ap (λ l. b ∷ l) p.3, (digit, p.4), p.5, p.6, omega (arith, p.7, some), p.8)
-  size_parts number room (b ∷ rest) payload (inr (ends, small)) =
-      let p = line_parts IsExtension (λ left behind. BehindSize limits number behind payload) room (b ∷ rest) ends in
-      ([], p.0, p.1, p.3, tt, p.4, small, omega (arith, p.5), p.6)
-
-  -- the number so far is no larger than the size
-  pub size_small : (number room : ℕ) (rest payload : List ℕ) → CompletesSize limits number room rest payload
-      → number < 2 ^ 62
-  size_small number room [] payload odd = absurd odd
-  size_small number room (b ∷ rest) payload (inl c) =
-      omega (arith, size_small (number * 16 + digit_value b) (room - 1) rest payload c.2)
-  size_small number room (b ∷ rest) payload (inr c) = c.1
-
-  -- the first digit is the number so far
-  value_first : (d : ℕ) (digits : List ℕ) → digits_value_after 16 0 (d ∷ digits) ≡ digits_value_after 16 (digit_value d) digits
-  value_first d digits = ap (λ n. digits_value_after 16 n digits) (zero-add (digit_value d))
+  by_payloads : (payload : List ℕ) (size : ℕ) (behind : List ℕ) → BehindSize limits size behind payload
+      → (ps : Payloads payload) × HasChunks limits ps.0 size behind
+  by_payloads payload zero behind (none, trailers) = (([], none), (refl, trailers))
+  by_payloads payload (suc n) behind c =
+      let p = data_parts (suc n) behind payload c in
+      ((p.0 ∷ p.6.payloads, p.5 ∙ ap (λ l. p.0 ++ l) p.6.equal), (sym p.3, omega arith, p.1, p.4, p.6.chunks))
 
   pub digit_on : (b : ℕ) (rest payload : List ℕ) → digit_value b < 16
-      → CompletesSize limits (digit_value b) (limits.line - 1) rest payload → IsBodyOfChunks limits (b ∷ rest) payload
-  digit_on b rest payload digit c =
-      let p = size_parts (digit_value b) (limits.line - 1) rest payload c in
-      body_of (digits_value_after 16 (digit_value b) p.0) (b ∷ rest) payload (b ∷ (p.0 ++ p.1)) p.2 (record {
-        digits = b ∷ p.0;
-        extension = p.1;
-        equal = refl;
-        numeral = (omega arith, (digit, p.4));
-        value = value_first b p.0;
-        small = p.6;
-        follows = p.5;
-        fits = omega (arith, p.7, length-append p.0 p.1);
-      }) (ap (λ l. b ∷ l) (p.3 ∙ sym (append_assoc p.0 p.1 (line_end p.2)))) p.8
+      → EndsSize (λ size behind. BehindSize limits size behind payload) (digit_value b) (limits.line - 1) rest
+      → IsBodyOfChunks limits (b ∷ rest) payload
+  digit_on b rest payload digit line =
+      let (ps, out) = size_out (λ (ps : Payloads payload). HasChunks limits ps.0) (digit_value b) (limits.line - 1) rest
+      (size_as (λ size behind. BehindSize limits size behind payload)
+      (λ size behind. (ps : Payloads payload) × HasChunks limits ps.0 size behind) (by_payloads payload) (digit_value b)
+      (limits.line - 1) (limits.line - 1) rest (omega arith) line) in
+      record { payloads = ps.0; chunks = (digit, out); equal = ps.1 }
 
-  digit_of : (b size : ℕ) (rest payload text behind digits : List ℕ) → (h : IsSizeLine (line_room limits) size text)
-      → h.digits ≡ digits → b ∷ rest ≡ text ++ line_end behind → BehindSize limits size behind payload
-      → (digit_value b < 16) × CompletesSize limits (digit_value b) (limits.line - 1) rest payload
-  digit_of b size rest payload text behind [] h is same goes_on = absurd (omega (arith, h.numeral.0, ap length is))
-  digit_of b size rest payload text behind (d ∷ digits) h is same goes_on =
-      let whole : b ∷ rest ≡ d ∷ (digits ++ (h.extension ++ line_end behind)) =
-      same ∙ ap (λ l. l ++ line_end behind) (h.equal ∙ ap (λ l. l ++ h.extension) is)
-      ∙ ap (λ l. d ∷ l) (append_assoc digits h.extension (line_end behind)) in
-      let head : d ≡ b = cc in
-      let tail : digits ++ (h.extension ++ line_end behind) ≡ rest = cc in
-      let all = subst (AllDigits 16) is h.numeral.1 in
-      let value : size ≡ digits_value_after 16 (digit_value d) digits =
-      sym h.value ∙ ap (λ ds. digits_value_after 16 0 ds) is ∙ value_first d digits in
-      rw (← head, ← tail) (
-        all.0,
-        size_ends digits h.extension behind payload (digit_value d) (limits.line - 1) all.1 (rw value at h.small) h.follows
-            (omega (arith, h.fits, ap length h.equal, length-append h.digits h.extension, ap length is))
-            (rw value at goes_on),
-      )
-
-  pub digit_first : (b : ℕ) (rest payload : List ℕ) → IsBodyOfChunks limits (b ∷ rest) payload
-      → (digit_value b < 16) × CompletesSize limits (digit_value b) (limits.line - 1) rest payload
-  digit_first b rest payload h =
-      let line = begins_line (b ∷ rest) payload h.payloads h.chunks h.equal in
-      digit_of b line.0 rest payload line.1 line.2 line.3.digits line.3 refl line.4 line.5
+  pub digit_first : (b : ℕ) (rest payload : List ℕ) → IsBodyOfChunks limits (b ∷ rest) payload → (digit_value b < 16)
+      × EndsSize (λ size behind. BehindSize limits size behind payload) (digit_value b) (limits.line - 1) rest
+  digit_first b rest payload body = (
+    body.chunks.0,
+    size_as (HasChunks limits body.payloads) (λ size behind. BehindSize limits size behind payload)
+        (by_size body.payloads payload body.equal) (digit_value b) (limits.line - 1) (limits.line - 1) rest (omega arith)
+        body.chunks.1,
+  )
 
 -- the first byte of a line of the trailers, or of the empty one
 pub field_on : (b room : ℕ) (rest : List ℕ) → IsTokenByte b → 2 ≤ room → EndsLine BehindFirst IsTrailers (room - 1) rest
     → IsTrailers room (b ∷ rest)
-field_on b room rest byte fits line =
-    let p = line_parts BehindFirst IsTrailers (room - 1) rest line in record {
-      fields = (b ∷ p.0) ∷ p.6.fields;
-      equal = ap (λ l. b ∷ l) (p.3 ∙ ap (λ l. p.0 ++ line_end l) p.6.equal);
-      lines = (IsField-of b p.0 byte p.4, p.6.lines);
-      few = omega (arith, p.5, fits, p.6.few, length-append (b ∷ p.0) (concat p.6.fields));
-    }
-
-pub last_on : (b room : ℕ) (rest : List ℕ) → b ≡ 13 → LineFeedThen (λ behind. behind ≡ []) rest → IsTrailers room (b ∷ rest)
-last_on b room [] is odd = absurd odd
-last_on b room (c ∷ behind) is (feed, none) = record { fields = []; equal = cc; lines = tt; few = omega arith }
+field_on b room rest byte fits line = let (count, out) = line_out BehindFirst HasFields (room - 1) rest line in (
+  suc count,
+  inr (
+    omega (arith, fits),
+    text_as BehindFirst (λ text. IsTokenByte b × BehindFirst text) (HasFields count) (room - 1) rest (λ text is. (byte, is))
+        out,
+  ),
+)
 
 abbrev FieldFirst : ℕ → ℕ → List ℕ → Type 0
 FieldFirst b room rest = ((b ≡ 13) × LineFeedThen (λ behind. behind ≡ []) rest)
     ⊎ (IsTokenByte b × (2 ≤ room) × EndsLine BehindFirst IsTrailers (room - 1) rest)
 
-fields_first : (b room : ℕ) (rest : List ℕ) (fields : List (List ℕ)) → (t : IsTrailers room (b ∷ rest)) → t.fields ≡ fields
-    → FieldFirst b room rest
-fields_first b room rest [] t same =
-    let all : b ∷ rest ≡ line_end [] = t.equal ∙ ap fields_bytes same in
-    let tail : 10 ∷ [] ≡ rest = cc in inl (cc, subst (LineFeedThen (λ behind. behind ≡ [])) tail (refl, refl))
-fields_first b room rest ([] ∷ fields) t same = absurd (IsField-none (subst (AllByRecursion IsField) same t.lines).0)
-fields_first b room rest ((x ∷ f) ∷ fields) t same =
-    let all : b ∷ rest ≡ x ∷ (f ++ line_end (fields_bytes fields)) = t.equal ∙ ap fields_bytes same in
-    let head : x ≡ b = cc in
-    let tail : f ++ line_end (fields_bytes fields) ≡ rest = cc in
-    let lines : AllByRecursion IsField ((x ∷ f) ∷ fields) = subst (AllByRecursion IsField) same t.lines in
-    let few : length ((x ∷ f) ++ concat fields) ≤ room = subst (λ fs. length (concat fs) ≤ room) same t.few in
-    let sum = length-append (x ∷ f) (concat fields) in
-    let begins = IsField-first x f lines.0 in
-    inr (
-      subst IsTokenByte head begins.0,
-      omega (arith, few, sum, BehindFirst-some f begins.1),
-      subst (EndsLine BehindFirst IsTrailers (room - 1)) tail
-          (line_ends BehindFirst IsTrailers f (fields_bytes fields) (room - 1) (room - length (x ∷ f)) begins.1
-          (omega (arith, few, sum))
-          (record { fields = fields; equal = refl; lines = lines.1; few = omega (arith, few, sum) })),
-    )
-
 pub field_first : (b room : ℕ) (rest : List ℕ) → IsTrailers room (b ∷ rest) → FieldFirst b room rest
-field_first b room rest t = fields_first b room rest t.fields t refl
+field_first b room rest (zero, last) = inl last
+field_first b room rest (suc count, inl (is, odd, feed)) = absurd odd
+field_first b room rest (suc count, inr (some, line)) =
+    let p = line_parts (λ text. IsTokenByte b × BehindFirst text) (HasFields count) (room - 1) rest line in
+    inr (
+      p.4.0,
+      omega (arith, some, p.5, BehindFirst-some p.0 p.4.1),
+      line_as (λ text. IsTokenByte b × BehindFirst text) BehindFirst (HasFields count) IsTrailers (room - 1) rest
+          (λ text is. is.1) (λ left behind fields. (count, fields)) line,
+    )

@@ -1,11 +1,11 @@
 -- Where in a body a reader stands: what completes the body from there, and what doesn't.
-use Rattle.std.specs.Prelude.{◌≡◌, ◌≢◌, ℕ, zero, suc, ◌+◌, ◌*◌, ◌-◌, ◌^◌, ◌<◌, ◌≤◌, ◌⊎◌, List, [], ◌∷◌, length, ⊤}
+use Rattle.std.specs.Prelude.{◌≡◌, ◌≢◌, ℕ, zero, suc, ◌+◌, ◌*◌, ◌^◌, ◌<◌, ◌≤◌, ◌⊎◌, List, [], ◌∷◌, length, max, ⊤}
 use Rattle.std.specs.Char.{digit_value}
 use Rattle.std.specs.List.{AllByRecursion}
 use Rattle.chunked.specs.Token.{IsTokenByte, IsValueByte}
-use Rattle.chunked.specs.Extension.{Many, One}
+use Rattle.chunked.specs.Extension.{One}
 use Rattle.chunked.specs.Within.{CompletesExtension, EndsNoExtension, RunsOver}
-use Rattle.chunked.specs.Body.{line_room, IsTextByte, IsTrailers, IsBodyOfChunks}
+use Rattle.chunked.specs.Body.{BehindFirst, EndsLine, EndsSize, IsBodyOfChunks, IsTextByte, IsTrailers, LineFeedThen}
 use Rattle.chunked.specs.declared.error.Malformed.{Malformed}
 use Rattle.chunked.specs.declared.error.Malformed.TheVariants.{NoSize, BadSize, BadField, SizeTooLarge, LineTooLong, TrailersTooLong, BareReturn, BareFeed, ChunkTooLong}
 use Rattle.chunked.specs.declared.limits.Limits.{Limits}
@@ -13,10 +13,6 @@ use Rattle.chunked.specs.declared.place.Place.{Place}
 use Rattle.chunked.specs.declared.place.Place.TheVariants.{Line, Size, Extension, SizeFeed, Data, DataFeed, Fields, FieldName, FieldValue, FieldFeed, LastFeed, Done}
 use Rattle.chunked.specs.declared.extension.Within.{Within}
 use Rattle.chunked.specs.declared.extension.Within.TheVariants.{Behind}
-
--- an LF, and then bytes of which this is true
-abbrev pub LineFeedThen : (List ℕ → Type 0) → List ℕ → Type 0
-LineFeedThen P rest = One (λ b. b ≡ 10) P rest
 
 -- `left` bytes of payload, the end of a line, and then a body
 abbrev pub CompletesData : Limits → ℕ → List ℕ → List ℕ → Type 0
@@ -31,33 +27,15 @@ abbrev pub BehindSize : Limits → ℕ → List ℕ → List ℕ → Type 0
 BehindSize limits zero rest payload = (payload ≡ []) × IsTrailers limits.trailers rest
 BehindSize limits (suc n) rest payload = CompletesData limits (suc n) rest payload
 
--- a text such as this, for which there is room, ends its line; and what is left of the room, and what stands behind the line, go
--- on so
-abbrev pub EndsLine : (List ℕ → Type 0) → (ℕ → List ℕ → Type 0) → ℕ → List ℕ → Type 0
-EndsLine IsText GoesOn room [] = ⊥
-EndsLine IsText GoesOn room (b ∷ rest) = ((b ≡ 13) × IsText [] × LineFeedThen (GoesOn room) rest)
-    ⊎ ((0 < room) × EndsLine (λ text. IsText (b ∷ text)) GoesOn (room - 1) rest)
-
 -- the rest of an extension ends the line of this size
 abbrev pub CompletesSizeLine : Limits → Within → ℕ → ℕ → List ℕ → List ℕ → Type 0
 CompletesSizeLine limits within size room rest payload =
     EndsLine (CompletesExtension within) (λ left behind. BehindSize limits size behind payload) room rest × (size < 2 ^ 62)
 
--- further digits and an extension end the line of a size, whose digits so far write this number
-abbrev pub CompletesSize : Limits → ℕ → ℕ → List ℕ → List ℕ → Type 0
-CompletesSize limits number room [] payload = ⊥
-CompletesSize limits number room (b ∷ rest) payload =
-    ((digit_value b < 16) × (0 < room) × CompletesSize limits (number * 16 + digit_value b) (room - 1) rest payload)
-    ⊎ CompletesSizeLine limits Behind number room (b ∷ rest) payload
-
--- what stands behind the first byte of a line of the trailers: the rest of its name, a colon, and a value
-abbrev pub BehindFirst : List ℕ → Type 0
-BehindFirst text = Many IsTokenByte (One (λ b. b ≡ 58) (AllByRecursion IsValueByte)) text
-
 -- these bytes complete the body from here, and this is the payload in them
 abbrev pub Completes : Limits → Place → List ℕ → List ℕ → Type 0
 Completes limits Line rest payload = IsBodyOfChunks limits rest payload
-Completes limits (Size number room) rest payload = CompletesSize limits number room rest payload
+Completes limits (Size number room) rest payload = EndsSize (λ size behind. BehindSize limits size behind payload) number room rest
 Completes limits (Extension within size room) rest payload = CompletesSizeLine limits within size room rest payload
 Completes limits (SizeFeed size) rest payload =
     LineFeedThen (λ behind. BehindSize limits size behind payload) rest × (size < 2 ^ 62)
@@ -103,6 +81,10 @@ IsWrong limits (FieldValue room) b why =
     WrongInTrailers (IsValueByte b × (room ≡ 0)) (¬ IsValueByte b × IsTextByte b) b why
 IsWrong limits Done b why = ⊥
 IsWrong limits feed b why = (why ≡ BareReturn) × (b ≢ 10)
+
+-- how many bytes the line of a size may have: one digit it always may
+abbrev pub line_room : Limits → ℕ
+line_room limits = max limits.line 1
 
 -- how many bytes there may be at most, from here to the next of payload or to the end of the body
 abbrev pub most_between : Limits → Place → ℕ

@@ -2,11 +2,10 @@
 use Rattle.std.proofs.Common.{◌≡◌, ◌≢◌, ℕ, zero, suc, ◌+◌, ◌*◌, ◌-◌, ◌<◌, ◌≤◌, ◌^◌, List, [], ◌∷◌, ◌++◌, length, sym, ap, subst, ◌∙◌, arith, inl, inr, refl}
 use Rattle.chunked.specs.Names.{AllByRecursion, Behind, behind_size, BehindFirst, BehindSize, chunked, Completes, CompletesSizeLine, Data, DataFeed, digit_value, Done, EndsLine, EndsNoExtension, Extension, FieldFeed, FieldName, Fields, FieldValue, IsDataOrDone, IsTrailers, IsValueByte, IsWrong, LastFeed, LeadsInExtension, Limits, Line, Malformed, most_between, nothing_behind, Place, RunsOver, Size, SizeFeed, StepsTo, Within, WrongInExtension}
 use Rattle.body_reader.specs.Coding.{PassesOver}
-use Rattle.chunked.specs.BodyLaws.{digit_is_text, extension_no_digit}
-use Rattle.chunked.specs.FieldLaws.{BehindFirst-some, token_is_text, token_plain, value_is_text}
-use Rattle.chunked.specs.WithinLaws.{CompletesExtension-text}
+use Rattle.chunked.specs.FieldLaws.{BehindFirst-some, digit_is_text, token_is_text, token_plain, value_is_text}
+use Rattle.chunked.specs.WithinLaws.{CompletesExtension-text, extension_no_digit}
 use Rattle.chunked.specs.WithinLaws as within
-use Rattle.chunked.specs.LineLaws.{digit_first, digit_on, field_first, field_on, last_on, line_as, line_parts, size_small}
+use Rattle.chunked.specs.LineLaws.{digit_first, digit_on, field_first, field_on, line_parts, size_small, text_as}
 use Rattle.chunked.specs.PlaceLaws.{Completes-nothing}
 
 -- no digit leads on in an extension
@@ -24,7 +23,7 @@ module _ (limits : Limits) where
   extension_on w b size room q rest payload small (inr s) c = (
     inr (
       omega (arith, s.2.2),
-      line_as _ _ _ (room - 1) rest (λ t e. (within.leads w b s.0 s.1 t).1 e) (rw s.3 at c).0,
+      text_as _ _ _ (room - 1) rest (λ t e. (within.leads w b s.0 s.1 t).1 e) (rw s.3 at c).0,
     ),
     small,
   )
@@ -45,21 +44,21 @@ module _ (limits : Limits) where
   step_on (Data zero) b q rest payload (none, is, to) c = (is, rw to at c)
   step_on (Data (suc left)) b q rest payload (none, is, to) c = absurd (omega (arith, none))
   step_on DataFeed b q rest payload (is, to) c = (is, rw to at c)
-  step_on (Fields room) b q rest payload (inl (is, to)) c = let d = rw to at c in (d.0, last_on b room rest is d.1)
+  step_on (Fields room) b q rest payload (inl (is, to)) c = let d = rw to at c in (d.0, (zero, (is, d.1)))
   step_on (Fields room) b q rest payload (inr (token, fits, to)) c =
       let d = rw to at c in (d.0, field_on b room rest token fits d.1)
   step_on (FieldName room) b q rest payload (inl (is, some, to)) c = let d = rw to at c in (
     d.0,
-    inr (some, line_as _ _ IsTrailers (room - 1) rest (λ t all. inl (is, all)) d.1),
+    inr (some, text_as _ _ IsTrailers (room - 1) rest (λ t all. inl (is, all)) d.1),
   )
   step_on (FieldName room) b q rest payload (inr (token, fits, to)) c = let d = rw to at c in (
     d.0,
-    inr (omega (arith, fits), line_as _ _ IsTrailers (room - 1) rest (λ t more. inr (token, more)) d.1),
+    inr (omega (arith, fits), text_as _ _ IsTrailers (room - 1) rest (λ t more. inr (token, more)) d.1),
   )
   step_on (FieldValue room) b q rest payload (inl (is, to)) c = let d = rw to at c in (d.0, inl (is, tt, d.1))
   step_on (FieldValue room) b q rest payload (inr (value, some, to)) c = let d = rw to at c in (
     d.0,
-    inr (some, line_as _ _ IsTrailers (room - 1) rest (λ t all. (value, all)) d.1),
+    inr (some, text_as _ _ IsTrailers (room - 1) rest (λ t all. (value, all)) d.1),
   )
   step_on (FieldFeed room) b q rest payload (is, to) c = let d = rw to at c in (d.0, (is, d.1))
   step_on LastFeed b q rest payload (is, to) c = let d = rw to at c in (d.0, (is, d.1))
@@ -79,7 +78,7 @@ module _ (limits : Limits) where
       let f = within.first w b p.0 p.4 in (
         Extension f.next size (room - 1),
         inr (f.next, f.steps, (p.0, f.left, omega (arith, p.5, some)), refl),
-        (line_as _ _ _ (room - 1) rest (λ t e. (within.leads w b f.next f.steps t).0 e) later, small),
+        (text_as _ _ _ (room - 1) rest (λ t e. (within.leads w b f.next f.steps t).0 e) later, small),
       )
 
   behind_first : (size : ℕ) (rest payload : List ℕ) → BehindSize limits size rest payload
@@ -93,7 +92,7 @@ module _ (limits : Limits) where
   name_first b room rest payload none some later text (inl (is, _)) fits = (
     FieldValue (room - 1),
     inl (is, some, refl),
-    (none, line_as _ _ IsTrailers (room - 1) rest valued later),
+    (none, text_as _ _ IsTrailers (room - 1) rest valued later),
   )
     where
       valued : (t : List ℕ) → BehindFirst (b ∷ t) → AllByRecursion IsValueByte t
@@ -102,20 +101,20 @@ module _ (limits : Limits) where
   name_first b room rest payload none some later text (inr (token, more)) fits = (
     FieldName (room - 1),
     inr (token, omega (arith, fits, BehindFirst-some text more), refl),
-    (none, line_as _ _ IsTrailers (room - 1) rest named later),
+    (none, text_as _ _ IsTrailers (room - 1) rest named later),
   )
     where
       named : (t : List ℕ) → BehindFirst (b ∷ t) → BehindFirst t
       named t (inl (is, all)) = absurd ((token_plain b token).1 is)
       named t (inr (token', more')) = more'
 
-  step_first : (p : Place) (b : ℕ) (rest payload : List ℕ) → ¬ IsDataOrDone p → Completes limits p (b ∷ rest) payload
+  pub step_first : (p : Place) (b : ℕ) (rest payload : List ℕ) → ¬ IsDataOrDone p → Completes limits p (b ∷ rest) payload
       → StepsWith p b rest payload
   step_first Line b rest payload open' c =
       let f = digit_first limits b rest payload c in (Size (digit_value b) (limits.line - 1), (f.0, refl), f.1)
   step_first (Size number room) b rest payload open' (inl (digit, some, c)) = (
     Size (number * 16 + digit_value b) (room - 1),
-    inl (digit, some, size_small limits (number * 16 + digit_value b) (room - 1) rest payload c, refl),
+    inl (digit, some, size_small _ (number * 16 + digit_value b) (room - 1) rest c, refl),
     c,
   )
   step_first (Size number room) b rest payload open' (inr c) =
@@ -139,7 +138,7 @@ module _ (limits : Limits) where
   step_first (FieldValue room) b rest payload open' (none, inl (is, all, feed)) = (FieldFeed room, inl (is, refl), (none, feed))
   step_first (FieldValue room) b rest payload open' (none, inr (some, later)) =
       let p = line_parts _ IsTrailers (room - 1) rest later in
-      (FieldValue (room - 1), inr (p.4.0, some, refl), (none, line_as _ _ IsTrailers (room - 1) rest (λ t all. all.1) later))
+      (FieldValue (room - 1), inr (p.4.0, some, refl), (none, text_as _ _ IsTrailers (room - 1) rest (λ t all. all.1) later))
   step_first (FieldFeed room) b rest payload open' (none, (is, c)) = (Fields room, (is, refl), (none, c))
   step_first LastFeed b rest payload open' (none, (is, c)) = (Done, (is, refl), (none, c))
   step_first Done b rest payload open' c = absurd (open' tt)
@@ -153,7 +152,7 @@ module _ (limits : Limits) where
   one_extension w b size room q r (inr s) (inr t) =
       s.3 ∙ ap (λ v. Extension v size (room - 1)) (within.one_way w b s.0 t.0 s.1 t.1) ∙ sym t.3
 
-  one_place : (p : Place) (b : ℕ) (q r : Place) → StepsTo limits p b q → StepsTo limits p b r → q ≡ r
+  pub one_place : (p : Place) (b : ℕ) (q r : Place) → StepsTo limits p b q → StepsTo limits p b r → q ≡ r
   one_place (Size number room) b q r (inr s) (inr t) = one_extension Behind b number room q r s.2 t.2
   one_place (Extension w size room) b q r s t = one_extension w b size room q r s.1 t.1
   one_place (Fields room) b q r s t = grind (arith, token_is_text)

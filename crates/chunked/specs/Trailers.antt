@@ -1,8 +1,8 @@
 -- What a writer of a body is given as trailers, and what it does with them.
-use Rattle.std.specs.Prelude.{◌≡◌, ℕ, ◌<◌, ◌⊎◌, List, [], length, map, take, get_or, codes}
+use Rattle.std.specs.Prelude.{◌≡◌, ℕ, ◌<◌, ◌⊎◌, ◌==◌, List, [], length, map, take, get_or, codes}
 use Rattle.std.specs.Char.{to_ascii_lowercase}
 use Rattle.std.specs.Borrow.{Bor}
-use Rattle.std.specs.List.{AllByRecursion}
+use Rattle.std.specs.List.{AllByRecursion, before_first}
 use Rattle.chunked.specs.declared.error.TrailersError.{TrailersError}
 use Rattle.chunked.specs.declared.error.TrailersError.TheVariants.{NoField, Framing, TooLong, Due, Io}
 use Rattle.chunked.specs.Body.{IsField}
@@ -12,13 +12,17 @@ use Rattle.chunked.specs.Chunk.{body_end}
 abbrev pub lines_of : List (Bor (List ℕ)) → List (List ℕ)
 lines_of fields = map (λ f. f.now) fields
 
+-- the name of a line of trailers: what stands in front of its first colon
+abbrev pub name_in : List ℕ → List ℕ
+name_in line = before_first (λ b. b == 58) line
+
 -- a line of trailers that says where the body ends, by the name of its field in any case: none may
 abbrev pub IsFramingName : List ℕ → Type 0
 IsFramingName name = (map to_ascii_lowercase name ≡ codes "content-length")
     ⊎ (map to_ascii_lowercase name ≡ codes "transfer-encoding")
 
 abbrev pub IsFraming : List ℕ → Type 0
-IsFraming line = (field : IsField line) × IsFramingName field.name
+IsFraming line = IsField line × IsFramingName (name_in line)
 
 -- a line that trailers may have
 abbrev pub IsTrailer : List ℕ → Type 0

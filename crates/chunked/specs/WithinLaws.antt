@@ -1,6 +1,6 @@
 -- Laws of places within an extension: where each byte leads, and what stands first in what is left.
-use Rattle.std.proofs.Common.{◌≡◌, ◌≢◌, ℕ, zero, suc, ◌+◌, ◌≤◌, ◌⊎◌, ◌↔◌, List, [], ◌∷◌, length, inl, inr, refl, subst, arith}
-use Rattle.chunked.specs.Names.{AllByRecursion, Assigned, BeforeName, BeforeValue, Behind, BehindName, Blank, CompletesExtension, Escaped, InName, InValue, IsBlank, IsExtension, IsTextByte, IsTokenByte, IsValueByte, LeadsBy, LeadsWithin, least_left, Parameter, Parameters, Quoted, Within}
+use Rattle.std.proofs.Common.{◌≡◌, ◌≢◌, ℕ, zero, suc, ◌+◌, ◌<◌, ◌≤◌, ◌⊎◌, ◌↔◌, List, [], ◌∷◌, length, inl, inr, refl, subst, arith}
+use Rattle.chunked.specs.Names.{AllByRecursion, Assigned, BeforeName, BeforeValue, Behind, BehindName, Blank, CompletesExtension, digit_value, Escaped, InName, InValue, IsBlank, IsExtension, IsTextByte, IsTokenByte, IsValueByte, LeadsBy, LeadsWithin, least_left, nat_tests, Parameter, Parameters, Quoted, Within}
 use Rattle.chunked.specs.FieldLaws.{token_plain, value_is_text}
 
 module _ (IsToken IsValue : ℕ → Type 0)
@@ -139,8 +139,12 @@ CompletesExtension-text w (b ∷ text) e =
     let f = first w b text e in (steps_text w b f.next f.steps, CompletesExtension-text f.next text f.left)
 
 -- one begins with a blank or a `;`
-pub IsExtension-first : (b : ℕ) (text : List ℕ) → IsExtension (b ∷ text) → IsBlank b ⊎ (b ≡ 59)
+IsExtension-first : (b : ℕ) (text : List ℕ) → IsExtension (b ∷ text) → IsBlank b ⊎ (b ≡ 59)
 IsExtension-first b text e = elim (parameters_first b e.0 text e.1) [ inl blank ↦ inl blank.0 | inr sign ↦ inr sign.0 ]
+
+-- so none begins with a digit
+pub extension_no_digit : (b : ℕ) (text : List ℕ) → IsExtension (b ∷ text) → digit_value b < 16 → ⊥
+extension_no_digit b text h small = let begins = IsExtension-first b text h in grind (arith, nat_tests, begins)
 
 -- a byte leads on as the steps say, or nowhere
 pub leads : (w : Within) (b : ℕ) (v : Within) → LeadsWithin w b v

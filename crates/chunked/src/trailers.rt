@@ -4,7 +4,7 @@ ghost use Rattle.std.specs.List.{AllByRecursion};
 ghost use Rattle.buffer_redux.specs.WriteParts.{PutsIn, room};
 ghost use Rattle.chunked.specs.Body.{IsField};
 ghost use Rattle.chunked.specs.Chunk.{body_end};
-ghost use Rattle.chunked.specs.Trailers.{CannotEnd, IsFramingName, IsTrailer, lines_of};
+ghost use Rattle.chunked.specs.Trailers.{CannotEnd, IsFramingName, IsTrailer, lines_of, name_in};
 
 use crate::chunk::put;
 use crate::error::TrailersError;
@@ -19,7 +19,7 @@ pub(crate) const BARE_END: usize = 5;
 // The name in this line, if it is one of trailers.
 fn name_of(line: &[u8]) -> Option<&[u8]>
     ensures { MatchOption result (¬ IsField line.now)
-        (λ name. IsField line.now × ((field : IsField line.now) → field.name ≡ name.now)) }
+        (λ name. IsField line.now × (name.now ≡ name_in line.now)) }
 {
     let Some(colon) = memchr(b':', line) else {
         return None;

@@ -1,5 +1,5 @@
 //! The writer of a body.
-ghost use Rattle.std.specs.Prelude.{◌≡◌, ◌<◌, ◌≤◌, ◌⊎◌, [], ◌++◌, length, IfOk, MatchResult, Some};
+ghost use Rattle.std.specs.Prelude.{◌≡◌, ◌<◌, ◌≤◌, ◌⊎◌, ◌↔◌, [], ◌++◌, length, IfErr, IfOk, IsOk, MatchResult, Some};
 ghost use Rattle.std.specs.IoError.{error_kind};
 ghost use Rattle.std.specs.declared.io.Error.{Error};
 ghost use Rattle.std.specs.declared.io.ErrorKind.TheVariants.{InvalidInput};
@@ -99,13 +99,20 @@ impl<W: TellWrite> ChunkedWriter<W> {
         &self.writer
     }
 
-    /// The inner writer, and the buffer with the bytes of chunks that were not sent. Nothing is sent, and the body isn't ended.
-    pub fn into_inner_with_buffer(self) -> (W, Buffer)
-        ensures inner { result.0 ≡ self.writer.inner }
-        ensures log { W.log result.0 ≡ self.writer.log }
-        ensures block { result.1 ≡ self.writer.block }
+    /// The inner writer, and the buffer with the bytes of chunks that were not sent: [`with_buffer`](ChunkedWriter::with_buffer)
+    /// goes on with these. Nothing is sent, and the body isn't ended. Where payload is [`due`](ChunkedWriter::due) the writer is
+    /// handed back as it was, since what is written next stands in the chunk that was begun.
+    pub fn into_inner_with_buffer(self) -> Result<(W, Buffer), Self>
+        ensures inner { IfOk result (λ parts. parts.0 ≡ self.writer.inner) }
+        ensures log { IfOk result (λ parts. W.log parts.0 ≡ self.writer.log) }
+        ensures block { IfOk result (λ parts. parts.1 ≡ self.writer.block) }
+        ensures between { IsOk result ↔ (self.due ≡ 0) }
+        ensures handed_back { IfErr result (λ back. back ≡ self) }
     {
-        self.into_inner().into_inner_with_buffer()
+        if self.due > 0 {
+            return Err(self);
+        }
+        Ok(self.into_inner_torn().into_inner_with_buffer())
     }
 
     /// How many bytes of payload are still to come of a chunk that was begun, since it doesn't fit the buffer; 0 between chunks.
@@ -116,10 +123,9 @@ impl<W: TellWrite> ChunkedWriter<W> {
         self.due
     }
 
-    /// The buffered writer, with the chunks that were not sent. The body isn't ended: [`new`](ChunkedWriter::new) goes on with
-    /// it, and what is written into this before stands within it. A chunk of which payload is [`due`](ChunkedWriter::due) stays
-    /// cut short: nothing goes on with that.
-    pub fn into_inner(self) -> BufWriter<W>
+    /// The buffered writer where it stands, which may be within a chunk: that is torn then. The body isn't ended. Between chunks
+    /// [`new`](ChunkedWriter::new) goes on with it, and what is written into this before stands within the body.
+    pub fn into_inner_torn(self) -> BufWriter<W>
         ensures { result ≡ self.writer }
     {
         let ChunkedWriter {

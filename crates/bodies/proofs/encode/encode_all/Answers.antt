@@ -43,7 +43,7 @@ returns-in-Err g c =
     let t = c.forward-answer.new.link in
     let over = rw (c.new-link.ensures, c.new.ensures.begun) at c.in-Err.ensures.forwards in
     let moves = (Forwards-moves rules _ t _ over).2 in
-    rw (c.into_inner.ensures, c.into_inner-source.ensures) (record {
+    rw (c.into_inner_torn.ensures, c.into_inner-source.ensures) (record {
       read_room = moves.hands.room;
       write_room = moves.takes.went.capacity;
       encodes = record {

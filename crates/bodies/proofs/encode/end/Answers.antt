@@ -14,6 +14,6 @@ returns-in-Err-flush g c =
 
 pub returns-in-Err : goal.returns-in-Err
 returns-in-Err g c =
-    rw c.into_inner.ensures
+    rw c.into_inner_torn.ensures
     (ends_not g.W.Tell.log g.W.TellWrite.trace c.args.body c.in-Err.field-0.0 c.requires.between c.in-Err.field-0.1
     c.in-Err.ensures.finishes)

@@ -23,7 +23,7 @@ loop-i-preserved c =
       lines = lines_more (lines_of fields) i there before.lines (subst IsTrailer is (
         c.in-Some.ensures.0,
         λ framing.
-            let odd = c.is_framing.ensures.1 (subst IsFramingName (c.in-Some.ensures.1 framing.0) framing.1) in
+            let odd = c.is_framing.ensures.1 (subst IsFramingName (sym c.in-Some.ensures.1) framing.1) in
             let not = c.if-is_framing.false in cc,
       ));
       counted = omega (
@@ -46,7 +46,7 @@ returns-then-is_framing-clause-cannot c =
       c.loop-i.invariant.lines,
       subst IsFraming (line_at fields i c.loop-i-test.true) (
         field,
-        subst IsFramingName (sym (c.in-Some.ensures.1 field))
+        subst IsFramingName c.in-Some.ensures.1
             (c.is_framing.ensures.0 c.if-is_framing.true),
       ),
     )

@@ -1,8 +1,8 @@
 -- The first colon of a line ends the name, as no byte of a token is one.
-use Rattle.std.proofs.Common.{◌≡◌, ◌+◌, length, slice_index, sym, subst, arith, rules}
+use Rattle.std.proofs.Common.{◌≡◌, ◌+◌, ◌∙◌, suc, length, drop, slice_index, ap, sym, subst, arith, rules}
 use Rattle.chunked.specs.Names.{AllByRecursion, IsValueByte, nat_tests}
 use Rattle.std.proofs.lemmas.Slice.{between_to_end}
-use Rattle.chunked.proofs.Colons.{field_has_colon, field_name, field_splits, splits_field}
+use Rattle.chunked.proofs.Colons.{field_has_colon, field_splits, first_colon, splits_field}
 use Rattle.chunked.proofs.trailers.name_of.Goals as goal
 use Rattle.chunked.proofs.trailers.name_of.Goals.{else-is_token-via-then-is_token+else-is_value, else-is_token-via-else-is_token}
 
@@ -11,13 +11,13 @@ returns-then-is_value c =
     let line = c.args.line.now in
     let end = c.in-Some.colon in
     let found = c.in-Some.ensures in
-    let is : slice_index line end ≡ 58 = grind (arith, nat_tests, found.1) in (
-      splits_field line end found.0.high is (record {
-        token = search rules;
-        all = subst (AllByRecursion IsValueByte) (between_to_end line (end + 1) (length line) (omega arith))
-            (c.is_value.ensures.0 c.if-is_value.true);
-      }),
-      λ field. sym (field_name line end is found.0.before field),
+    let is : slice_index line end ≡ 58 = grind (arith, nat_tests, found.1) in
+    let one : end + 1 ≡ suc end = omega arith in
+    let behind = between_to_end line (end + 1) (length line) (omega arith) ∙ ap (λ k. drop k line) one in
+    let token = c.is_token.ensures.0 (search rules) in (
+      splits_field line end found.0.high is
+          (token.0, subst (AllByRecursion IsValueByte) behind (c.is_value.ensures.0 c.if-is_value.true)) token.1,
+      first_colon line end found.0.high is found.0.before,
     )
 
 pub returns-else-is_token : goal.returns-else-is_token
@@ -26,14 +26,16 @@ returns-else-is_token c = λ field.
     let end = c.in-Some.colon in
     let found = c.in-Some.ensures in
     let is : slice_index line end ≡ 58 = grind (arith, nat_tests, found.1) in
+    let one : end + 1 ≡ suc end = omega arith in
+    let behind = between_to_end line (end + 1) (length line) (omega arith) ∙ ap (λ k. drop k line) one in
     let s = field_splits line end is found.0.before field in
     elim c.else-is_token.branch [
       | else-is_token-via-then-is_token+else-is_value w ↦
           let right = w.is_value.ensures.1 (subst (AllByRecursion IsValueByte)
-          (sym (between_to_end line (end + 1) (length line) (omega arith))) s.all) in
+          (sym behind) s.0.1) in
           let wrong = w.if-is_value.false in cc
       | else-is_token-via-else-is_token w ↦
-          let right = c.is_token.ensures.1 s.token in let wrong = w.if-is_token.false in cc
+          let right = c.is_token.ensures.1 (s.0.0, s.1) in let wrong = w.if-is_token.false in cc
     ]
 
 pub returns-in_default : goal.returns-in_default
