@@ -1,11 +1,13 @@
 -- Laws of heads.
-use Rattle.std.specs.Prelude.{◌≡◌, ℕ, ◌≤◌, ◌==◌, Bool, true, false, ◌&&◌, ◌||◌, List, [], ◌∷◌, ◌++◌, length, take, if◌then◌else◌}
-use Rattle.std.proofs.Common.{sym, ap, subst, inl, inr, ◌∙◌, arith, refl, append_assoc, length-append}
-use Rattle.messages.specs.Names.{as_known, Bad, Before, Begins, behind_blank, ends_chunked, fault_on, fault_then, first_line, has_many_lines, has_other_version, head_fault, HeaderError, heads, is_behind_first, is_connect, is_doubtful, is_return, IsHead, IsHeadFault, IsLawful, IsNoHead, known_of, length-drop, Limits, lines, lines_fault, method_kind, More, names_other, request_framing, request_unique, said_fault, scanned_headers, ScanStep, Sized, Start, texts, true≢false, turn, turn_fault}
+use Rattle.std.specs.Prelude.{◌≡◌, ℕ, ◌≤◌, Bool, true, false, List, [], ◌∷◌, ◌++◌, length, take}
+use Rattle.std.proofs.Common.{sym, ap, subst, inl, inr, ◌∙◌, arith, append_assoc, length-append}
+use Rattle.messages.specs.Names.{as_known, Bad, Before, Begins, behind_blank, fault_on, fault_then, head_fault, HeaderError, heads, IsHead, IsHeadFault, IsLawful, IsNoHead, known_of, length-drop, Limits, lines, lines_fault, method_kind, More, request_unique, said_fault, scanned_headers, ScanStep, Sized, Start, texts, true≢false, turn, turn_fault}
+use Rattle.std.proofs.lemmas.Bool.Decides.{nat_tests}
 use Rattle.http1.specs.declared.fields.KnownFields.{KnownFields}
 use Rattle.http1.specs.declared.framing.MethodKind.{MethodKind}
 use Rattle.messages.specs.declared.bad_head.BadHead.{BadHead}
-use Rattle.messages.specs.declared.bad_head.BadHead.TheVariants.{BareEnd, LongLine, LongHead, ManyFields, CutShort, Version, Tunnel, Coding, Refused}
+use Rattle.messages.specs.declared.bad_head.BadHead.TheVariants.{CutShort}
+use Rattle.messages.specs.Lines.{too_long}
 use Rattle.messages.specs.LinesLaws.{line_fault_stays, lines_small, texts_lawful}
 
 -- no head has more bytes
@@ -55,15 +57,8 @@ abbrev is_cut : BadHead → Bool
 is_cut (CutShort have) = true
 is_cut e = false
 
-whole_if : (test : Bool) (a b : BadHead) → is_cut a ≡ false → is_cut b ≡ false → is_cut (if test then a else b) ≡ false
-whole_if true a b is is' = is
-whole_if false a b is is' = is'
-
 whole_turn : (place : Before) (byte : ℕ) → is_cut (turn_fault place byte) ≡ false
-whole_turn place byte =
-    let named = names_other place && (byte == 13) in
-    whole_if ((byte == 10) || is_return place) BareEnd (if named then Version else Refused) refl
-    (whole_if named Version Refused refl refl)
+whole_turn place byte = grind (arith, nat_tests)
 
 whole_then : (t : ScanStep Before) (e : BadHead) (on : Before → BadHead) → is_cut e ≡ false
     → ((next : Before) → is_cut (on next) ≡ false) → is_cut (fault_then t e on) ≡ false
@@ -71,24 +66,20 @@ whole_then (More next) e on is later = later next
 whole_then (Sized len) e on is later = is
 whole_then Bad e on is later = is
 
+whole_long : (place : Before) → is_cut (too_long place) ≡ false
+whole_long place = grind (arith, nat_tests)
+
 whole_lines : (place : Before) (bytes : List ℕ) → is_cut (fault_on place bytes) ≡ false
-whole_lines place [] = whole_if (is_behind_first place) LongHead LongLine refl refl
+whole_lines place [] = whole_long place
 whole_lines place (byte ∷ bytes) =
     whole_then (turn place byte) (turn_fault place byte) (λ next. fault_on next bytes) (whole_turn place byte)
     (λ next. whole_lines next bytes)
 
 whole_said : (method : MethodKind) (minor : ℕ) (known : KnownFields) → is_cut (said_fault method minor known) ≡ false
-whole_said method minor known =
-    let coded = known.other_coding && ends_chunked (request_framing method minor known) in
-    let plain = if is_connect method then Tunnel else (if coded then Coding else Refused) in
-    whole_if (is_doubtful minor known) Refused plain refl
-    (whole_if (is_connect method) Tunnel (if coded then Coding else Refused) refl (whole_if coded Coding Refused refl refl))
+whole_said method minor known = grind (arith, nat_tests)
 
 whole_text : (limits : Limits) (text : List ℕ) → is_cut (lines_fault limits text) ≡ false
-whole_text limits text =
-    let other = has_other_version (first_line text) in
-    whole_if (has_many_lines limits text) ManyFields (if other then Version else Refused) refl
-    (whole_if other Version Refused refl refl)
+whole_text limits text = grind (arith, nat_tests)
 
 whole_fault : (limits : Limits) (bytes : List ℕ) (e : BadHead) → IsHeadFault limits bytes e → is_cut e ≡ false
 whole_fault limits bytes e (inl (h, few, is)) = ap is_cut is ∙ whole_said (method_kind h.method) h.minor (known_of h.fields)

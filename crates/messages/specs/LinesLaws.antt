@@ -1,5 +1,5 @@
 -- What is wrong with lines stays so, and nothing is wrong with those of a request.
-use Rattle.std.specs.Prelude.{◌≡◌, ℕ, zero, suc, ◌+◌, ◌-◌, ◌<◌, ◌≤◌, ◌==◌, ◌&&◌, not, nat_le, if◌then◌else◌, Bool, true, false, All, IsTrue, List, [], ◌∷◌, ◌++◌, flat_map, length, take}
+use Rattle.std.specs.Prelude.{◌≡◌, ℕ, zero, suc, ◌+◌, ◌-◌, ◌<◌, ◌≤◌, ◌==◌, ◌&&◌, nat_le, if◌then◌else◌, Bool, true, false, All, IsTrue, List, [], ◌∷◌, ◌++◌, codes, flat_map, length, take}
 use Rattle.std.specs.Char.{is_ascii_digit}
 use Rattle.std.proofs.Common.{sym, ap, subst, ◌∙◌, arith, refl, append_assoc, length-append}
 use Rattle.std.proofs.lemmas.Bool.{le-leb, ne_eqb}
@@ -119,40 +119,12 @@ version_leads : (minor : ℕ) → minor ≤ 9 → LeadsTo turn (Version 0) (prin
 version_leads minor small =
     let digit : is_ascii_digit (48 + minor) ≡ true =
     ap (λ t. t && nat_le (48 + minor) 57) (le-leb 48 (48 + minor) (omega arith))
-    ∙ le-leb (48 + minor) 57 (omega (arith, small)) in (
-      Version 1,
-      refl,
-      (
-        Version 2,
-        refl,
-        (
-          Version 3,
-          refl,
-          (
-            Version 4,
-            refl,
-            (
-              Version 5,
-              refl,
-              (
-                Version 6,
-                refl,
-                (
-                  Version 7,
-                  refl,
-                  (
-                    Version 8,
-                    ap (λ t. if t then More (Version 8) else
-                        (if (48 + minor == 13) && (7 == 8) then More FirstReturn else Bad)) digit,
-                    refl,
-                  ),
-                ),
-              ),
-            ),
-          ),
-        ),
-      ),
-    )
+    ∙ le-leb (48 + minor) 57 (omega (arith, small)) in
+    let last : turn (Version 7) (48 + minor) ≡ More (Version 8) =
+    ap (λ t. if t then More (Version 8) else (if (48 + minor == 13) && (7 == 8) then More FirstReturn else Bad)) digit in
+    leads_then turn (Version 0) (codes "HTTP") (Version 4) (47 ∷ 49 ∷ 46 ∷ (48 + minor) ∷ []) (Version 8)
+    (Version 1, refl, (Version 2, refl, (Version 3, refl, (Version 4, refl, refl))))
+    (Version 5, refl, (Version 6, refl, (Version 7, refl, (Version 8, last, refl))))
 
 but_last : (a b c d e f : List ℕ) → a ++ b ++ 32 ∷ c ++ 32 ∷ d ++ e ++ (f ++ 13 ∷ 10 ∷ [])
     ≡ (a ++ (b ++ 32 ∷ (c ++ 32 ∷ (d ++ (e ++ (f ++ 13 ∷ [])))))) ++ 10 ∷ []

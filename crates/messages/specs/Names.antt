@@ -23,16 +23,16 @@ pub use Rattle.codec.specs.declared.scan.ScanStep.{ScanStep}
 pub use Rattle.codec.specs.declared.scan.ScanStep.TheVariants.{Bad, More, Sized}
 pub use Rattle.http1.specs.Fields.{known_fields}
 pub use Rattle.http1.specs.Framing.{method_kind, request_framing}
-pub use Rattle.http1.specs.Message.{has_one_host, known_of}
+pub use Rattle.http1.specs.Message.{known_of}
 pub use Rattle.httparse.proofs.GrammarLemmas.{request_unique}
 pub use Rattle.httparse.specs.Grammar.{ReadsRequest, RequestHead}
 pub use Rattle.httparse.specs.Spans.{header_bytes, IsRequestAt, name_and_value}
-pub use Rattle.messages.specs.Faults.{ends_chunked, has_many_lines, head_fault, is_connect, is_doubtful, IsHeadFault, lines_fault, said_fault, text_fault}
-pub use Rattle.messages.specs.Heads.{expects, extent_of, heads, is_expected, is_met, IsHead, IsHeadPiece, IsKnownHead, IsNoHead, keeps, SaysPlainly}
-pub use Rattle.messages.specs.Lines.{fault_on, fault_then, is_behind_first, is_return, line_fault, lines, names_other, texts, turn, turn_fault}
+pub use Rattle.messages.specs.Faults.{head_fault, IsHeadFault, lines_fault, said_fault, text_fault}
+pub use Rattle.messages.specs.Heads.{expects, extent_of, heads, is_expected, is_met, IsHead, IsHeadPiece, IsKnownHead, IsNoHead, keeps}
+pub use Rattle.messages.specs.Lines.{fault_on, fault_then, line_fault, lines, texts, turn, turn_fault}
 pub use Rattle.messages.specs.Messages.{AreMessages, Begun, body_answer, body_rules, BodyCoding, coding_of, EachReadGave, Enters, FinishesBody, InBody, InsideGoes, InTurn, IsMessage, IsRoomy, Message, MessagesWent, Reader, room_of, TellsWhy, WhyNone}
-pub use Rattle.messages.specs.Target.{begins_with_letter, is_web, IsBehindScheme, IsBracketed, IsPlainField, IsTarget}
-pub use Rattle.messages.specs.Versions.{as_known, behind_blank, first_line, has_other_version, with_one}
+pub use Rattle.messages.specs.Target.{begins_with_letter, is_web, IsBehindScheme, IsBracketed, IsPlainField}
+pub use Rattle.messages.specs.Versions.{as_known, behind_blank, with_one}
 pub use Rattle.messages.specs.declared.head.Extent.{Extent}
 pub use Rattle.messages.specs.declared.head.ParsedHead.{ParsedHead}
 pub use Rattle.messages.specs.declared.limits.Limits.{Limits}
