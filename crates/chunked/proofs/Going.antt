@@ -170,26 +170,25 @@ module _ {S : Type 0} (tells : S → StreamLog) (trace : S → S → Type 0) (no
             whole = stays_whole t part refl still refl;
           }
 
-  -- a chunk was begun, behind whole ones
-  module _ (s : ChunkedWriterState S) (is : IsChunkedWriter s) (between : s.due ≡ 0) (size : ℕ) (small : size < 2 ^ 62)
-    where
-      begun_went : (t : ChunkedWriterState S) → CopiesSizeLine tells trace size s (Ok tt) t
-          → PayloadWent trace s (chunk_begun size []) [] t
-      begun_went t b =
-          payload_went tells trace none joins s t (chunk_begun size []) []
-          (went_on tells trace none joins s.writer b.spaced t.writer [] (chunk_begun size [])
-          (space_went tells trace none joins s.writer b.spaced around (Ok tt) is.block b.makes_space)
-          (puts_went tells trace none joins b.spaced t.writer (chunk_begun size []) b.ended.0)) b.ended.1
-          (ap (λ l. l.writes.received) b.calls ∙ sym (append-nil (accepted_of s)))
+  -- a chunk was begun, or not
+  module _ (s : ChunkedWriterState S) (is : IsChunkedWriter s) (size : ℕ) where
+    begun_went : (t : ChunkedWriterState S) → CopiesSizeLine tells trace size s (Ok tt) t
+        → PayloadWent trace s (chunk_begun size []) [] t
+    begun_went t b =
+        payload_went tells trace none joins s t (chunk_begun size []) []
+        (went_on tells trace none joins s.writer b.spaced t.writer [] (chunk_begun size [])
+        (space_went tells trace none joins s.writer b.spaced around (Ok tt) is.block b.makes_space)
+        (puts_went tells trace none joins b.spaced t.writer (chunk_begun size []) b.ended.0)) b.ended.1
+        (ap (λ l. l.writes.received) b.calls ∙ sym (append-nil (accepted_of s)))
 
-      not_begun_went : (e : Error) (t : ChunkedWriterState S) → CopiesSizeLine tells trace size s (Err e) t
-          → PayloadWent trace s [] [] t
-      not_begun_went e t b =
-          nothing_went tells trace none joins s t
-          (rw b.ended.0 (space_went tells trace none joins s.writer b.spaced around (Err e) is.block b.makes_space)) b.ended.1
-          b.calls
+    not_begun_went : (e : Error) (t : ChunkedWriterState S) → CopiesSizeLine tells trace size s (Err e) t
+        → PayloadWent trace s [] [] t
+    not_begun_went e t b =
+        nothing_went tells trace none joins s t
+        (rw b.ended.0 (space_went tells trace none joins s.writer b.spaced around (Err e) is.block b.makes_space)) b.ended.1
+        b.calls
 
-  -- a write within a chunk, and one that begins a chunk
+  -- a write that begins a chunk
   module _ (s : ChunkedWriterState S) (payload : List ℕ) (some : 0 < length payload) where
     noted_on : (b t : ChunkedWriterState S) (answer : Result ℕ Error) → b.calls ≡ s.calls → IsNoted b payload answer t
         → IsNoted s payload answer t
@@ -200,16 +199,13 @@ module _ {S : Type 0} (tells : S → StreamLog) (trace : S → S → Type 0) (no
       abbrev size : ℕ
       size = min (length payload) greatest
 
-      small : size < 2 ^ 62
-      small = omega arith
-
       pub wrote_begun : (b : ChunkedWriterState S) → CopiesSizeLine tells trace size s (Ok tt) b → (answer : Result ℕ Error)
           (t : ChunkedWriterState S) → WentOn tells trace b payload answer t → WritesChunk tells trace s payload answer t
       wrote_begun b begins answer t went = record {
         went = (
           chunk_begun size [] ++ went.went.0,
           PayloadWent-joins trace none joins s b t (chunk_begun size []) went.went.0 [] (portion payload answer)
-              (begun_went s is between size small b begins) went.went.1,
+              (begun_went s is size b begins) went.went.1,
         );
         nothing = λ nothing. absurd (omega (arith, nothing, some));
         chunks = λ _ fits. absurd (omega (arith, fits, large));
@@ -224,7 +220,7 @@ module _ {S : Type 0} (tells : S → StreamLog) (trace : S → S → Type 0) (no
       pub not_begun : (e : Error) (t : ChunkedWriterState S) → CopiesSizeLine tells trace size s (Err e) t → IsChunkedWriter t
           → WritesChunk tells trace s payload (Err e) t
       not_begun e t begins whole = record {
-        went = ([], not_begun_went s is between size small e t begins);
+        went = ([], not_begun_went s is size e t begins);
         nothing = λ nothing. absurd (omega (arith, nothing, some));
         chunks = λ _ fits. absurd (omega (arith, fits, large));
         fits = λ _ _ fits. absurd (omega (arith, fits, large));

@@ -1,5 +1,5 @@
 -- What goes into a buffered writer, and what a whole chunk and the end of a body do there.
-use Rattle.std.proofs.Common.{◌≡◌, ℕ, zero, suc, ◌+◌, ◌^◌, ◌<◌, ◌≤◌, List, [], ◌∷◌, ◌++◌, length, take, Result, Ok, Err, sym, ap, subst, ◌∙◌, arith, inl, inr, refl, append-nil}
+use Rattle.std.proofs.Common.{◌≡◌, ℕ, zero, suc, ◌+◌, ◌^◌, ◌<◌, ◌≤◌, List, [], ◌∷◌, ◌++◌, length, take, Result, Ok, sym, ap, subst, ◌∙◌, arith, inl, inr, refl, append-nil}
 use Rattle.chunked.specs.Names.{accepted_of, after_write, All, All-cons, All-nil, AllByRecursion, around, Block, body_end, Buffered, cases_lt, chunk, ChunkedWriterState, ChunksWent, Error, Finishes, HasBegun, IsBlock, IsCarried, IsChunkedWriter, IsChunks, IsTrailer, Kind, limit_of, MakesSpace, PayloadWent, Plain, PutsIn, PutsIn-order, Ring, room, SendsFirst, StdPolicy, StreamLog, take_all, taken_payloads, WritesChunk, WritesInOrder-contents, WritesInOrder-joins, WritesInOrder-none}
 use Rattle.buffer_redux.specs.BufWriter.{WasSent, WritesInOrder}
 use Rattle.chunked.specs.ChunkLaws.{IsChunks-body, IsChunks-joins}
@@ -172,36 +172,6 @@ module _ {S : Type 0} (tells : S → StreamLog) (trace : S → S → Type 0) (no
         goes_on = λ _ within. absurd (omega (arith, within, between));
         noted = noted;
         whole = whole;
-      }
-
-    -- sending failed
-    module _ (full : room s.writer < around + length payload) (e : Error) (m : Buffered S StdPolicy)
-        (sent : WasSent tells trace s.writer (Err e) m) where
-      abbrev Unsent : ChunkedWriterState S
-      Unsent = record s { writer = m }
-
-      none_went : PayloadWent trace s [] [] Unsent
-      none_went = nothing_went s Unsent (sent_went s.writer m (Err e) sent) refl refl
-
-      pub unsent_whole : IsChunkedWriter Unsent
-      unsent_whole = record {
-        whole = is.whole;
-        begun = is.begun;
-        block = sent.whole;
-        capacity = omega (arith, sent.capacity, is.capacity);
-      }
-
-      pub unsent : WritesChunk tells trace s payload (Err e) Unsent
-      unsent = record {
-        went = ([], none_went);
-        nothing = λ nothing. absurd (omega (arith, nothing, some));
-        chunks = λ _ _. record { carried = All-nil IsCarried; went = none_went; due = refl };
-        fits = λ _ _ there. absurd (omega (arith, there, full));
-        full = λ _ _ _ _. sent;
-        begins = λ _ large. absurd (omega (arith, large, small));
-        goes_on = λ _ within. absurd (omega (arith, within, between));
-        noted = refl;
-        whole = unsent_whole;
       }
 
   -- an empty payload

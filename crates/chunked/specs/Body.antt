@@ -60,7 +60,7 @@ abbrev pub fields_bytes : List (List ℕ) → List ℕ
 fields_bytes [] = line_end []
 fields_bytes (field ∷ later) = field ++ line_end (fields_bytes later)
 
--- what stands behind the line of a size, where chunks of these payloads are to come: as many bytes, which isn't none, the end of a
+-- what stands behind the line of a size, where chunks of these payloads are to come: as many bytes, at least one, the end of a
 -- line, and the next chunk; or behind the last one, whose size is 0, the trailers
 abbrev pub HasChunks : Limits → List (List ℕ) → ℕ → List ℕ → Type 0
 HasChunks limits [] size bytes = (size ≡ 0) × IsTrailers limits.trailers bytes

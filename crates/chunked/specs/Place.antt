@@ -35,7 +35,8 @@ CompletesSizeLine limits within size room rest payload =
 -- these bytes complete the body from here, and this is the payload in them
 abbrev pub Completes : Limits → Place → List ℕ → List ℕ → Type 0
 Completes limits Line rest payload = IsBodyOfChunks limits rest payload
-Completes limits (Size number room) rest payload = EndsSize (λ size behind. BehindSize limits size behind payload) number room rest
+Completes limits (Size number room) rest payload =
+    EndsSize (λ size behind. BehindSize limits size behind payload) number room rest
 Completes limits (Extension within size room) rest payload = CompletesSizeLine limits within size room rest payload
 Completes limits (SizeFeed size) rest payload =
     LineFeedThen (λ behind. BehindSize limits size behind payload) rest × (size < 2 ^ 62)

@@ -211,13 +211,13 @@ fn ends_chunk(alloc: Global) -> io::Result<bool> {
 
 // A writer that is made again of its parts.
 fn over_parts(body: Body) -> io::Result<Body> {
-    match body.into_inner_with_buffer() {
-        Ok((inner, buffer)) if buffer.capacity() > 20 => Ok(ChunkedWriter::with_buffer(
-            buffer, inner,
-        )),
-        Ok(_) => Err(io::Error::from(ErrorKind::InvalidInput)),
-        Err(_) => Err(io::Error::from(ErrorKind::InvalidData)),
+    let Some((inner, buffer)) = body.into_inner_with_buffer().ok() else {
+        return Err(io::Error::from(ErrorKind::InvalidData));
+    };
+    if buffer.capacity() <= 20 {
+        return Err(io::Error::from(ErrorKind::InvalidInput));
     }
+    Ok(ChunkedWriter::with_buffer(buffer, inner))
 }
 
 #[test]

@@ -1,7 +1,7 @@
 -- Each field so far is plain, and all are behind the last; one that isn't is among them.
-use Rattle.std.proofs.Common.{◌≤◌, length, All, take_all, sym, refl, ◌∙◌, subst, arith}
-use Rattle.messages.specs.Names.{All-get_or, All-map, All-more, false≢true, header_bytes, IsPlainField}
-use Rattle.messages.proofs.Spans.{all_of_map, no_span}
+use Rattle.std.proofs.Common.{sym, refl, ◌∙◌, arith}
+use Rattle.messages.specs.Names.{All-more, false≢true, header_bytes, IsPlainField}
+use Rattle.messages.proofs.Spans.{all_fields, no_span, not_all}
 use Rattle.messages.proofs.target.are_hosts_plain.Goals as goal
 
 pub loop-span-preserved : goal.loop-span-preserved
@@ -12,18 +12,13 @@ loop-span-preserved c =
 pub returns-then-not-is_plain : goal.returns-then-not-is_plain
 returns-then-not-is_plain c = (
   λ wrong. absurd (let odd = wrong in cc),
-  λ all.
-      let each = all_of_map IsPlainField (header_bytes c.args.head.now) c.args.spans.now all in
-      let here = All-get_or (λ s. IsPlainField (header_bytes c.args.head.now s)) c.args.spans.now
-      c.loop-span.span-index no_span c.loop-span-test.true each in
-      absurd (false≢true (sym c.if-not-is_plain.true ∙ c.is_plain.ensures.1 here)),
+  λ all. absurd (not_all IsPlainField c.args.head.now c.args.spans.now c.loop-span.span-index c.loop-span-test.true
+      (λ is. false≢true (sym c.if-not-is_plain.true ∙ c.is_plain.ensures.1 is)) all),
 )
 
 pub returns : goal.returns
-returns c =
-    let finished : length c.args.spans.now ≤ c.loop-span.span-index = omega (arith, c.loop-span-test.false) in (
-      λ _. All-map IsPlainField (header_bytes c.args.head.now) c.args.spans.now
-          (subst (All (λ s. IsPlainField (header_bytes c.args.head.now s)))
-          (take_all c.loop-span.span-index c.args.spans.now finished) c.loop-span.invariant),
-      λ _. refl,
-    )
+returns c = (
+  λ _. all_fields IsPlainField c.args.head.now c.args.spans.now c.loop-span.span-index (omega (arith, c.loop-span-test.false))
+      c.loop-span.invariant,
+  λ _. refl,
+)
