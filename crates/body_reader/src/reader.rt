@@ -27,8 +27,8 @@ use std::{fmt, io, mem};
 /// A reader of one body, out of a buffered reader of yours. What follows the body stays in that:
 /// [`finish`](BodyReader::finish) hands it back.
 ///
-/// Only `with_buffer` and `collect` take memory. It asks the buffered reader for nothing behind the payload that a call hands out
-/// but what its coding has to see, nor once the body ended, but in [`is_at_end`](BodyReader::is_at_end).
+/// Only `with_buffer`, `collect` and `collect_while` take memory, but for what the policy does. The stream is asked only where
+/// what came settles nothing and no payload is left; once the body ended, only in [`is_at_end`](BodyReader::is_at_end).
 #[derive(Drop)]
 pub struct BodyReader<R: Tell, C: Coding, P = StdPolicy> {
     reader: BufReader<R, P>,
@@ -147,7 +147,7 @@ impl<R: Tell, C: Coding, P> BodyReader<R, C, P> {
         mem::swap(&mut self.coding, coding);
     }
 
-    /// The payload that is buffered, as far as the last fill said, and wasn't consumed.
+    /// The payload that is buffered, as far as the last call found, and wasn't consumed.
     pub fn piece(&self) -> &[u8]
         ensures { result.now ≡ take self.now.known self.now.reader.block.bytes }
     {
@@ -349,8 +349,8 @@ impl<R: TellRead, C: Coding, P: ReaderPolicy> BodyReader<R, C, P> {
         }
     }
 
-    /// Whether nothing follows what was taken: reads a byte ahead, unless one is buffered, and leaves what comes. Behind the end
-    /// of the body this tells whether the stream ended too.
+    /// Whether nothing follows what was taken: asks the stream once, unless a byte is buffered, and leaves what comes. Behind the
+    /// end of the body this tells whether the stream ended too.
     pub fn is_at_end(&mut self) -> io::Result<bool>
         ensures buffered { IfOk result (λ none. IsTrue none ↔ self.new.reader.block.bytes ≡ []) }
         ensures looks { LooksBehind R.remaining P.rules (C.grammar self.old.coding) self.old result self.new }

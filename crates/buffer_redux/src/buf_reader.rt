@@ -133,7 +133,7 @@ impl<R: Tell> BufReader<R, StdPolicy> {
 }
 
 impl<R: Tell, P> BufReader<R, P> {
-    /// The same reader under another policy.
+    /// The same reader under another policy. The old one is dropped.
     pub fn set_policy<Q: ReaderPolicy>(self, policy: Q) -> BufReader<R, Q>
     where
         P: Drop,
@@ -349,7 +349,7 @@ impl<R: TellRead, P: ReaderPolicy> Read for BufReader<R, P> {
 impl<R: TellRead, P: ReaderPolicy> BufRead for BufReader<R, P> {
     ghost consumable_len = { λ r. Some (length r.block.bytes) };
 
-    /// Reads as long as the policy says so, and returns the buffered bytes.
+    /// Reads as long as the policy says so and leaves room, and the reader gives bytes; then returns all that is buffered.
     ///
     /// A fault of the reader, `Interrupted` among them, or an `Err` of the policy is returned at once. The bytes that
     /// came before it stay buffered.

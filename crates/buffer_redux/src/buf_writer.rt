@@ -32,7 +32,7 @@ mod text;
 mod unwrapping;
 mod whole;
 
-/// A writer with a buffer, which flushes as its policy says.
+/// A writer with a buffer, which sends as its policy says.
 ///
 /// No byte is lost or changes place: what the inner writer received, then what is buffered, is what was buffered at
 /// first, then what was accepted.
@@ -281,12 +281,11 @@ impl<W: TellWrite, P: WriterPolicy> BufWriter<W, P> {
 impl<W: TellWrite, P: WriterPolicy> Write for BufWriter<W, P> {
     ghost contents = { writer_contents };
 
-    /// Asks the policy, flushes the amount that it says, and then takes bytes in: by one write of the inner writer where
+    /// Asks the policy, sends the amount that it says, and then takes bytes in: by one write of the inner writer where
     /// nothing is buffered and they fill the capacity, and else as many as fit.
     ///
-    /// An `Err` is the policy's, that flush's or the inner writer's, and no byte was taken in. After an `Ok` the amount that
-    /// the policy's `after_write` says was flushed too; a fault of that flush isn't returned, and what wasn't sent stays
-    /// buffered.
+    /// An `Err` is the policy's, that send's or the inner writer's, and no byte was taken in. After an `Ok` the amount that the
+    /// policy's `after_write` says was sent too; a fault of that send isn't returned, and what wasn't sent stays buffered.
     #[inline(always)]
     fn write(&mut self, bytes: &[u8]) -> io::Result<usize>
         ensures bound { WritesAtMost result bytes.now }

@@ -30,8 +30,8 @@ use std::io;
 use std::io::{ErrorKind, Write};
 use std::marker::Model;
 
-/// A [`BufWriter`] under [`FlushOnNewline`]: after each write it flushes through the last newline, the byte 10, that is
-/// buffered. A fault of that flush isn't returned, and what wasn't sent stays buffered: so `writeln!` to a full device
+/// A [`BufWriter`] under [`FlushOnNewline`]: after each write it sends through the last newline, the byte 10, that is
+/// buffered. A fault of that send isn't returned, and what wasn't sent stays buffered: so `writeln!` to a full device
 /// answers `Ok`. [`LineSender`] returns it, as std's `LineWriter` does; so do [`send`](LineWriter::send), `flush` and
 /// [`finish`](LineWriter::finish).
 ///

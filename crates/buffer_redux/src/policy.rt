@@ -38,7 +38,7 @@ pub use writers::{FlushAtLeast, FlushExact, FlushOn, FlushOnNewline};
 #[derive(Clone, Copy, Debug)]
 pub struct DoRead(pub bool);
 
-/// How many bytes a `BufWriter` is to flush: none at 0, and none where fewer are buffered.
+/// How many bytes a `BufWriter` is to send, without a flush of the inner writer: none at 0, and none where fewer are buffered.
 #[derive(Clone, Copy, Debug)]
 pub struct FlushAmt(pub usize);
 
@@ -60,19 +60,19 @@ pub trait ReaderPolicy {
         ensures { AfterConsume rules self.old buffer.old amt self.new buffer.new };
 }
 
-/// When a `BufWriter` flushes.
+/// When a `BufWriter` sends what is buffered. No call of a policy flushes the inner writer.
 pub trait WriterPolicy {
     // What the calls may return and change beside the law, and what the policy claims.
     ghost rules: { WriteRules Self } = { any_write_rules };
 
-    /// Asked before `incoming` bytes are written, for the amount to flush first. An `Err` ends the writer's call.
+    /// Asked before `incoming` bytes are written, for the amount to send first. An `Err` ends the writer's call.
     ///
     /// [`flush_when_full`] is the original's default.
     fn before_write(&mut self, buf: &mut Buffer, incoming: usize) -> io::Result<FlushAmt>
         ensures { BeforeWrite rules self.old buf.old incoming result self.new buf.new };
 
-    /// Asked after bytes were written, for the amount to flush then: `FlushAmt(0)` where that is nothing. A fault of that
-    /// flush isn't returned, and what wasn't sent stays buffered.
+    /// Asked after bytes were written, for the amount to send then: `FlushAmt(0)` where that is nothing. A fault of that send
+    /// isn't returned, and what wasn't sent stays buffered.
     fn after_write(&mut self, buf: &Buffer) -> FlushAmt
         ensures { AfterWrite rules self.old buf.now result self.new };
 }
@@ -84,7 +84,7 @@ pub fn read_when_empty(buffer: &Buffer) -> DoRead
     DoRead(buffer.is_empty())
 }
 
-/// What std's `BufWriter` does: flush all that is buffered where the incoming bytes don't fit behind it.
+/// What std's `BufWriter` does: send all that is buffered where the incoming bytes don't fit behind it.
 pub fn flush_when_full(buf: &Buffer, incoming: usize) -> FlushAmt
     ensures { result.0 ≡ amount_when_full buf.now incoming }
 {
@@ -104,8 +104,8 @@ fn amount_of_all(buf: &Buffer) -> FlushAmt
     FlushAmt(buf.len())
 }
 
-/// What the types of `std::io` do: a reader reads only where nothing is buffered, a writer flushes only where the
-/// incoming bytes don't fit, and it neither grows the buffer nor makes room.
+/// What the types of `std::io` do: a reader reads only where nothing is buffered, a writer sends only where the incoming bytes
+/// don't fit. It neither grows the buffer nor makes room.
 #[derive(Debug, Default, Drop)]
 pub struct StdPolicy;
 

@@ -26,9 +26,10 @@ pub trait Service<D: Items> {
     // Which failures may come of a piece, by what it says and its payload, and what each leaves.
     ghost fails: { Self → D.Item → List ℕ → Self.Failure → Self → Type 0 };
 
-    /// Answers a piece, and says whether a further one is taken. What it is given is a piece of the grammar, so no payload is
-    /// longer than the decoder allows. It writes once, by one `write_parts` as [`write_answer`](crate::write_answer) makes, or
-    /// nothing, as to a part of a request, and sends and flushes nothing else. At an `Err` nothing of an answer was taken in.
+    /// Answers a piece, and says whether a further one is taken. What it is given is a piece that some decoder of this type
+    /// reads: so a limit that an answer rests on stands in the type, as that of `KindVarints` of `decoders`. It writes once, by
+    /// one `write_parts` as [`write_answer`](crate::write_answer) makes, or nothing, as to a part of a request, and sends and
+    /// flushes nothing else. At an `Err` nothing of an answer was taken in.
     fn answer<W: TellWrite>(
         &mut self,
         item: D::Item,

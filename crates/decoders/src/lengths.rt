@@ -27,7 +27,7 @@ pub enum Order {
     LittleEndian,
 }
 
-/// Payloads of at most `max` bytes, each behind its length. The length doesn't count its own bytes.
+/// Payloads of at most `max` bytes, which is below 2^62, each behind its length. The length doesn't count its own bytes.
 ///
 /// ```
 /// let lengths = Lengths {

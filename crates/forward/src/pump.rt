@@ -13,7 +13,7 @@ use std::io::ErrorKind;
 ///
 /// Nothing is held back: before the stream is asked, all that was taken in is sent and flushed. An ask that was interrupted is
 /// made again, 64 times in a row, which begins anew where bytes came in one; for all of these the writer is flushed once at
-/// most. The stream's own flush isn't: where that is interrupted, this ends by `Cause::Write`. An `Err` says which side stopped,
+/// most. A flush that is interrupted isn't made again: this ends by `Cause::Write`. An `Err` says which side stopped,
 /// and why, and how many payloads went over: where what came was wrong, or a read failed, all of these were sent and flushed.
 /// Behind a read that failed this may be called again, and goes on with what is buffered.
 pub fn forward<F: Filter>(link: &mut Link<F>) -> Result<u64, Stopped<F::Wrong>>

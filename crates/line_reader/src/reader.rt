@@ -166,8 +166,8 @@ impl<R: Tell> LineReader<R> {
         pieces.into_inner()
     }
 
-    /// The inner reader, and the buffer with the bytes that weren't handed out. It may not grow, but by its
-    /// [`set_limit`](Buffer::set_limit).
+    /// The inner reader, and the buffer with the bytes that weren't handed out. Its limit is its capacity, so it doesn't grow
+    /// until [`set_limit`](Buffer::set_limit) raises that.
     ///
     /// The last part is whether the stream ended, which no call has told yet ([`has_ended`](LineReader::has_ended)): a reader
     /// that is made of the others doesn't know that, and would ask the stream again.

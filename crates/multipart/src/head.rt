@@ -159,7 +159,7 @@ fn line(text: &[u8]) -> &[u8]
 }
 
 /// The value of the first field of this name, whatever the case of its letters, in a head as
-/// [`head`](crate::Multipart::head) lends it.
+/// [`head`](crate::Multipart::head) lends it. One that goes on in further lines has their ends in it.
 pub fn field<'a>(head: &'a [u8], name: &[u8]) -> Option<&'a [u8]>
     ensures value { option_copied result ≡ field_of head.now name.now }
 {
@@ -177,8 +177,9 @@ fn said(text: &[u8]) -> &[u8]
     }
 }
 
-/// What a parameter of a field's value says, as `name` of `form-data; name="a"`: what stands between its quotes, as it stands,
-/// or up to the next `;`, without white space around it. In quotes a backslash is a byte as another, as in web forms.
+/// What the first parameter of this name in a field's value says, whatever the case of its letters, as `name` of `form-data;
+/// name="a"`: what stands between its quotes, as it stands, or up to the next `;`, without white space around it. In quotes a
+/// backslash is a byte as another, as in web forms.
 pub fn parameter<'a>(value: &'a [u8], name: &[u8]) -> Option<&'a [u8]>
     ensures value { option_copied result ≡ parameter_of value.now name.now }
 {

@@ -78,8 +78,8 @@ impl<R: Tell, P> Model for Multipart<R, P> {
 }
 
 impl<R: Tell, P> Multipart<R, P> {
-    /// A reader of a body with this boundary, that comes next of `reader`. Its buffer has the bytes of the boundary, and four
-    /// more. An `Err` hands the reader back.
+    /// A reader of a body with this boundary, that comes next of `reader`. Its buffer needs four bytes more than the boundary has
+    /// (`Room`), and a boundary 1 to 70 bytes (`Boundary`). An `Err` hands the reader back.
     pub fn new(
         alloc: Global,
         reader: BufReader<R, P>,
@@ -121,8 +121,8 @@ impl<R: Tell, P> Multipart<R, P> {
         self.body.get_ref()
     }
 
-    /// The buffered reader where it stands. Behind the last part that is behind the two hyphens, and the rest of that line and
-    /// the epilogue follow; else a part is torn.
+    /// The buffered reader where it stands. Once [`next_part`](Multipart::next_part) answered `false` that is behind the last two
+    /// hyphens, and the rest of their line and the epilogue follow; else a part is torn.
     pub fn into_inner_torn(self) -> BufReader<R, P>
         ensures { result ≡ self.body.reader }
     {
@@ -145,14 +145,14 @@ impl<R: Tell, P> Multipart<R, P> {
     }
 
     /// The head of the part: what stands behind its boundary, up to the empty line. It begins with the end of the boundary's
-    /// line, and [`field`](crate::field) finds a field in it.
+    /// line, and [`field`](crate::field) finds a field in it. Behind an `Err` it may be the beginning of one.
     pub fn head(&self) -> &[u8]
         ensures { result.now ≡ self.now.head }
     {
         self.head.as_slice()
     }
 
-    /// The text of the part that is buffered, as far as the last [`fill`](Multipart::fill) said, and wasn't consumed; none where
+    /// The text of the part that is buffered, as far as the last call found, and wasn't consumed; none where
     /// the reader stands in no part.
     pub fn piece(&self) -> &[u8]
         ensures text { self.now.stand ≡ Stand.Part → result.now ≡ take self.now.body.known self.now.body.reader.block.bytes }

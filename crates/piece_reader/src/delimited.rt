@@ -20,7 +20,7 @@ impl fmt::Display for TooLong {
 impl Error for TooLong {}
 
 /// Pieces of at most `max` bytes, each ended by the byte `end`, which isn't counted. What stands behind the last end is a piece
-/// too, where it is something.
+/// too, where it is something. `max` is below 2^63.
 ///
 /// ```
 /// let lines = Delimited { end: b'\n', max: 9 };

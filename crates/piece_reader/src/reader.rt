@@ -213,8 +213,9 @@ impl<R: Tell, D: Decoder> PieceReader<R, D> {
         self.into_inner_with_buffer().0
     }
 
-    /// The inner reader, and the buffer with the bytes that weren't handed out. It may not grow, but by its
-    /// [`set_limit`](Buffer::set_limit). A `with_buffer` makes a reader of them again, of this layer or another.
+    /// The inner reader, and the buffer with the bytes that weren't handed out. Its limit is its capacity, so it doesn't grow
+    /// until [`set_limit`](Buffer::set_limit) raises that. A `with_buffer` makes a reader of them again, of this layer or
+    /// another.
     ///
     /// The last part is whether the stream ended, which no call has told yet ([`has_ended`](PieceReader::has_ended)): a reader
     /// that is made of the others doesn't know that, and would ask the stream again.

@@ -8,7 +8,7 @@ use memchr::memmem;
 
 /// Pieces of at most `max` bytes, each ended by the bytes `end`, which aren't counted: a piece goes up to where these stand
 /// first. What stands behind the last end is a piece too, where it is something; `Ended` of `codec` refuses that. One byte is
-/// a [`Delimited`](crate::Delimited).
+/// a [`Delimited`](crate::Delimited). `end` has a byte or more, and with it `max` is below 2^63.
 ///
 /// ```
 /// let end = Vec::from_slice(alloc, b"\r\n\r\n")?;

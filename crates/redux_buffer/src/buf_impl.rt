@@ -23,7 +23,8 @@ pub enum BufImpl {
 }
 
 impl BufImpl {
-    /// An empty plain buffer of capacity `cap` in bytes.
+    /// An empty plain buffer of capacity `cap` in bytes; `TooLarge` past [`MAX_CAPACITY`](crate::MAX_CAPACITY), `Memory` where
+    /// that was refused.
     pub fn with_capacity(alloc: Global, cap: usize) -> Result<Self, GrowError>
         ensures empty { IfOk result (λ b. ((as_placed b).block.bytes ≡ []) × ((as_placed b).block.capacity ≡ cap)) }
         ensures made { IfOk result (λ b. IsNew Plain cap (as_placed b).block × IsPlaced (as_placed b)) }
@@ -33,7 +34,8 @@ impl BufImpl {
         Ok(BufImpl::Std(StdBuf::with_capacity(alloc, cap)?))
     }
 
-    /// An empty ring of at least `cap` bytes.
+    /// An empty ring whose capacity in bytes is the least multiple of [`RING_UNIT`](crate::RING_UNIT) that is at least `cap`;
+    /// `TooLarge` past [`MAX_RING`](crate::MAX_RING), `Memory` where that was refused.
     pub fn with_capacity_ringbuf(alloc: Global, cap: usize) -> Result<Self, GrowError>
         ensures empty { IfOk result (λ b. ((as_placed b).block.bytes ≡ []) × ((as_placed b).block.capacity ≡ round cap)) }
         ensures made { IfOk result (λ b. IsNew Ring (round cap) (as_placed b).block × IsPlaced (as_placed b)) }
@@ -353,7 +355,8 @@ impl BufImpl {
         }
     }
 
-    /// Makes sure that `additional` more bytes can be written. A refusal changes nothing.
+    /// Makes sure that `additional` more bytes can be written. A refusal changes nothing: `TooLarge` past the limit of the kind,
+    /// `Memory` where that was refused.
     pub fn reserve(&mut self, additional: usize) -> Result<(), GrowError>
         ensures grown { OnOk result (Reserves additional (as_placed self.old).block (as_placed self.new).block) }
         ensures place { OnKind (as_placed self.old).block.kind ⊤

@@ -40,5 +40,6 @@ pub const MAX_CAPACITY: usize = 1 << 62;
 /// The greatest capacity of a ring, in bytes.
 pub const MAX_RING: usize = 1 << 61;
 
-/// How many `Interrupted` in a row a call retries that sends, copies, or goes on up to a byte.
+/// How many `Interrupted` in a row are retried by a call that goes on until all is done, as one that sends, copies, or reads up
+/// to a byte.
 pub const INTERRUPT_LIMIT: u32 = 64;

@@ -32,7 +32,7 @@ impl Model for RawBuf {
 }
 
 impl RawBuf {
-    /// A block of `cap` zero bytes, or `TooLarge` past [`MAX_CAPACITY`].
+    /// A block of `cap` zero bytes; `TooLarge` past [`MAX_CAPACITY`], `Memory` where that was refused.
     pub fn with_capacity(alloc: Global, cap: usize) -> Result<Self, GrowError>
         ensures zeroed { IfOk result (λ r. r ≡ replicate cap 0) }
         ensures limit { FitsWithin result cap (2 ^ 62) }
@@ -115,7 +115,8 @@ impl RawBuf {
         Ok(RawBuf { buf })
     }
 
-    /// Adds `n` zero bytes at the end. A refusal changes nothing.
+    /// Adds `n` zero bytes at the end. A refusal changes nothing: `TooLarge` past [`MAX_CAPACITY`] in all, `Memory` where that
+    /// was refused.
     pub fn reserve(&mut self, n: usize) -> Result<(), GrowError>
         ensures grown { OnOk result (self.new ≡ self.old ++ replicate n 0) }
         ensures unchanged { OnErr result (self.new ≡ self.old) }
@@ -135,7 +136,7 @@ impl RawBuf {
         Ok(())
     }
 
-    /// Never grows: a `Vec` cannot grow without leave to move.
+    /// Always `false`: a `Vec` can't be asked to grow only where it stands.
     pub fn reserve_in_place(&mut self, _n: usize) -> bool
         ensures never { result ≡ false }
         ensures unchanged { self.new ≡ self.old }

@@ -69,8 +69,8 @@ fn round_up(n: usize) -> usize
 }
 
 impl SliceDequeBuf {
-    /// An empty ring whose capacity in bytes is the least multiple of [`RING_UNIT`] that is at least `cap`, or `TooLarge` past
-    /// [`MAX_RING`].
+    /// An empty ring whose capacity in bytes is the least multiple of [`RING_UNIT`] that is at least `cap`; `TooLarge` past
+    /// [`MAX_RING`], `Memory` where that was refused.
     pub fn with_capacity(alloc: Global, cap: usize) -> Result<Self, GrowError>
         ensures empty { IfOk result (λ b. (b.block.bytes ≡ []) × (b.block.capacity ≡ round cap)) }
         ensures made { IfOk result (λ b. IsNew Ring (round cap) b.block × IsPlaced b) }
@@ -306,7 +306,8 @@ impl SliceDequeBuf {
     }
 
     /// Makes sure that `additional` more bytes can be written. The capacity stays a multiple of [`RING_UNIT`], and the bytes of
-    /// a ring that grew stand at the front. A refusal changes nothing.
+    /// a ring that grew stand at the front. A refusal changes nothing: `TooLarge` past [`MAX_RING`], `Memory` where that was
+    /// refused.
     pub fn reserve(&mut self, additional: usize) -> Result<(), GrowError>
         ensures grown { OnOk result (Reserves additional self.old.block self.new.block) }
         ensures place { self.old.block.capacity < self.new.block.capacity → self.new.place ≡ 0 }

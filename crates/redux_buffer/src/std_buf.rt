@@ -55,7 +55,8 @@ impl Model for StdBuf {
 }
 
 impl StdBuf {
-    /// An empty buffer of capacity `cap` in bytes, or `TooLarge` past [`MAX_CAPACITY`](crate::MAX_CAPACITY).
+    /// An empty buffer of capacity `cap` in bytes; `TooLarge` past [`MAX_CAPACITY`](crate::MAX_CAPACITY), `Memory` where that was
+    /// refused.
     pub fn with_capacity(alloc: Global, cap: usize) -> Result<Self, GrowError>
         ensures empty { IfOk result (λ b. (b.block.bytes ≡ []) × (b.block.capacity ≡ cap)) }
         ensures made { IfOk result (λ b. IsNew Plain cap b.block × IsPlaced b) }
@@ -273,7 +274,8 @@ impl StdBuf {
         self.moved.add(len);
     }
 
-    /// Makes sure that `additional` more bytes can be written. A refusal changes nothing.
+    /// Makes sure that `additional` more bytes can be written. A refusal changes nothing: `TooLarge` past
+    /// [`MAX_CAPACITY`](crate::MAX_CAPACITY), `Memory` where that was refused.
     pub fn reserve(&mut self, additional: usize) -> Result<(), GrowError>
         ensures grown { OnOk result (Reserves additional self.old.block self.new.block) }
         ensures kind { self.old.block.kind ≡ Plain }

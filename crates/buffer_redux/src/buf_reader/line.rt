@@ -36,7 +36,8 @@ impl<R: TellRead, P: ReaderPolicy> BufReader<R, P> {
     /// character that a fault came into: the call that is made again goes on with it.
     ///
     /// Behind a part of a character it reads past the policy. Where that takes more than half of a plain buffer, which has
-    /// fewer than 6 bytes then, the buffer grows; `InvalidInput` says that its limit forbids that, and the part stays buffered.
+    /// fewer than 6 bytes then, the buffer grows; `InvalidInput` says that its limit forbids that, `OutOfMemory` that memory was
+    /// refused, and the part stays buffered.
     #[inline(always)]
     pub fn read_line<A: Allocator>(&mut self, out: &mut String<A>) -> io::Result<usize>
         ensures appended { (handed : List ℕ) × (string_bytes out.new ≡ string_bytes out.old ++ handed)

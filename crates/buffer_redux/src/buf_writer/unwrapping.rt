@@ -14,7 +14,7 @@ use std::io;
 use std::io::Write;
 
 impl<W: TellWrite, P> BufWriter<W, P> {
-    /// The same writer under another policy. Nothing is sent.
+    /// The same writer under another policy. The old one is dropped, and nothing is sent.
     pub fn set_policy<Q: WriterPolicy>(self, policy: Q) -> BufWriter<W, Q>
     where
         P: Drop,

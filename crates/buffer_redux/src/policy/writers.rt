@@ -7,7 +7,7 @@ use memchr::memrchr;
 use redux_buffer::Buffer;
 use std::io;
 
-/// Flushes as std does before a write, and after it through the last such byte that is buffered, for which each write
+/// Sends as std does before a write, and after it through the last such byte that is buffered, for which each write
 /// searches all that is.
 ///
 /// ```
@@ -33,7 +33,7 @@ impl WriterPolicy for FlushOn {
     }
 }
 
-/// Flushes as std does before a write, and after it through the last newline, the byte 10, that is buffered:
+/// Sends as std does before a write, and after it through the last newline, the byte 10, that is buffered:
 /// `FlushOn(b'\n')`.
 ///
 /// ```
@@ -68,7 +68,7 @@ fn ensure_capacity(buf: &mut Buffer, capacity: usize) -> io::Result<()>
     Ok(())
 }
 
-/// Flushes as std does before a write, and after it all that is buffered, where that is at least so many bytes.
+/// Sends as std does before a write, and after it all that is buffered, where that is at least so many bytes.
 ///
 /// Before a write it reserves what the buffer's capacity lacks of so many bytes. That does nothing where as much can be
 /// written already, so the capacity may stay below the number. A refusal is an `Err` of the kind of its
@@ -97,7 +97,7 @@ impl WriterPolicy for FlushAtLeast {
     }
 }
 
-/// Flushes exactly so many bytes, before a write and after it, where at least so many are buffered.
+/// Sends exactly so many bytes, before a write and after it, where at least so many are buffered.
 ///
 /// Before a write it reserves what the buffer's capacity lacks of so many bytes, as [`FlushAtLeast`] does, and makes room
 /// where fewer are buffered and the incoming ones don't fit behind them. A refusal is an `Err` of the kind of its

@@ -10,7 +10,7 @@ use crate::error::{BodyError, answer_of};
 use buffer_redux::tell::{Tell, TellRead};
 
 impl<R: Tell> Body<R> {
-    /// The payload that is buffered, as far as the last fill said, and wasn't consumed. What is
+    /// The payload that is buffered, as far as the last call found, and wasn't consumed. What is
     /// [`buffered`](Body::buffered) begins with it.
     pub fn piece(&self) -> &[u8]
         ensures front { result.now ≡ take self.now.body.known self.now.body.reader.block.bytes }
