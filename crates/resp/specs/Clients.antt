@@ -3,6 +3,8 @@ use Rattle.std.specs.Prelude.{◌≡◌, ◌<◌, Bool, true, false}
 use Rattle.buffer_redux.specs.Buffered.{Buffered}
 use Rattle.codec.specs.PieceReader.{ReaderState}
 use Rattle.codec.specs.Serving.{Server, server}
+use Rattle.codec.specs.declared.serving.ServeError.{ServeError}
+use Rattle.codec.specs.declared.serving.ServeError.TheVariants.{Write}
 use Rattle.codec.specs.declared.serving.Served.{Served}
 use Rattle.codec.specs.declared.serving.Served.TheVariants as served
 use Rattle.decoders.specs.declared.resp.Resp.{Resp}
@@ -40,6 +42,16 @@ ends_as Many = served.Many
 abbrev pub tells_closed : Ending → Bool
 tells_closed Closed = true
 tells_closed ending = false
+
+-- the stream of replies failed, so that one may be missing
+abbrev pub MayLackReply : {W F : Type 0} → ServeError W F → Type 0
+MayLackReply (Write e) = Unit {0}
+MayLackReply e = ⊥
+
+-- whether a client is closed that was served till then: behind such a fault, or as the service left it
+abbrev pub closed_behind : {W F : Type 0} → ServeError W F → Bool → Bool
+closed_behind (Write e) left = true
+closed_behind e left = left
 
 -- a stream's end is told as one within a request just where parts of one are to come
 abbrev pub IsWithin : Waiting → Ending → Type 0

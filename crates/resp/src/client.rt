@@ -1,5 +1,5 @@
 //! A client, and the store that outlives it.
-ghost use Rattle.std.specs.Prelude.{◌≡◌, [], IfErr, IfOk, IsTrue, MatchBool, Ok, Err, OnOk, false};
+ghost use Rattle.std.specs.Prelude.{◌≡◌, Bool, [], IfErr, IfOk, IsTrue, MatchBool, Ok, Err, OnOk, false};
 ghost use Rattle.codec.specs.Answering.{NeverFails};
 ghost use Rattle.codec.specs.PieceReader.{IsFresh};
 ghost use Rattle.std.specs.declared.io.Error.{Error};
@@ -9,7 +9,7 @@ ghost use Rattle.codec.specs.declared.serving.ServeError.TheVariants.{Flush};
 ghost use Rattle.codec.specs.declared.serving.Served.TheVariants as served;
 ghost use Rattle.codec.specs.Serving.{Serves, ServingFails, server};
 ghost use Rattle.decoders.specs.Resp.{resp, resp_item};
-ghost use Rattle.resp.specs.Clients.{IsWithin, begun_of, closed_of, ends_as, pieces_of, serving, tells_closed};
+ghost use Rattle.resp.specs.Clients.{IsWithin, MayLackReply, begun_of, closed_behind, closed_of, ends_as, pieces_of, serving, tells_closed};
 ghost use Rattle.resp.specs.Sessions.{RepliesBy, session_of};
 ghost use Rattle.resp.specs.Waiting.{nothing};
 ghost use Rattle.resp.specs.declared.client.Ending.TheVariants as ending;
@@ -88,7 +88,8 @@ impl<R: Tell> Client<R> {
 impl<R: TellRead> Client<R> {
     /// Answers the client's requests, one after another, by `store`, as [`serve_all`] does. Behind an `Err` of `Read` this may be
     /// called again, and goes on within the request that has begun; a stream that ends within a bulk string, or a line, is
-    /// `Wrong`. Once the client is closed this only flushes, and answers `Closed`.
+    /// `Wrong`. An `Err` of `Write` closes the client, since a reply may be missing, and a further one would be taken for it.
+    /// Once the client is closed this only flushes, and answers `Closed`.
     pub fn serve<W: TellWrite>(
         &mut self,
         store: &mut Store,
@@ -98,6 +99,7 @@ impl<R: TellRead> Client<R> {
         ensures stays_closed { IsTrue (closed_of self.old) → (self.new ≡ self.old) × (store.new ≡ store.old)
             × IfOk result (λ answer. answer ≡ ending.Closed) }
         ensures closes { IfOk result (λ answer. closed_of self.new ≡ tells_closed answer) }
+        ensures missing { IfErr result (λ e. MayLackReply e → IsTrue (closed_of self.new)) }
         ensures within { IfOk result (λ ending. IsWithin (begun_of self.new) ending) }
         ensures served { IfOk result (λ ending. MatchBool (closed_of self.old)
             (WasFlushed W.log W.trace replies.old (Ok tt) replies.new)
@@ -105,8 +107,10 @@ impl<R: TellRead> Client<R> {
             (serving self.old store.old replies.old) (ends_as ending) (serving self.new store.new replies.new))) }
         ensures failed { IfErr result (λ e. MatchBool (closed_of self.old)
             ((why : Error) × (e ≡ Flush served.Closed why) × WasFlushed W.log W.trace replies.old (Err why) replies.new)
-            (ServingFails interrupt_limit R.remaining W.log W.trace (resp (pieces_of self.old).decoder.max) resp_item RepliesBy
-            NeverFails (serving self.old store.old replies.old) e (serving self.new store.new replies.new))) }
+            ((left : Bool) × (closed_of self.new ≡ closed_behind e left)
+            × ServingFails interrupt_limit R.remaining W.log W.trace (resp (pieces_of self.old).decoder.max) resp_item RepliesBy
+            NeverFails (serving self.old store.old replies.old) e
+            (server (pieces_of self.new) (session_of self.new.alloc (begun_of self.new) store.new left) replies.new))) }
     {
         if self.closed {
             return match replies.flush() {
@@ -130,10 +134,11 @@ impl<R: TellRead> Client<R> {
             (resp (pieces_of self.old).decoder.max) resp_item RepliesBy
             (server (pieces_of self.old) (session_of self.old.alloc self.old.request store.old false) replies.old)
             (ends_as ending) (serving self.new store.new replies.new)) }
-        ensures failed { IfErr result (λ e. ServingFails interrupt_limit R.remaining W.log W.trace
-            (resp (pieces_of self.old).decoder.max) resp_item RepliesBy NeverFails
+        ensures failed { IfErr result (λ e. (left : Bool) × (closed_of self.new ≡ closed_behind e left)
+            × ServingFails interrupt_limit R.remaining W.log W.trace (resp (pieces_of self.old).decoder.max) resp_item RepliesBy
+            NeverFails
             (server (pieces_of self.old) (session_of self.old.alloc self.old.request store.old false) replies.old) e
-            (serving self.new store.new replies.new)) }
+            (server (pieces_of self.new) (session_of self.new.alloc (begun_of self.new) store.new left) replies.new)) }
     {
         let request = mem::replace(&mut self.request, Request::new(self.alloc));
         let values = mem::replace(store, Store::new(self.alloc, 0));
@@ -145,8 +150,21 @@ impl<R: TellRead> Client<R> {
         *store = values;
         match answer {
             Ok(served) => Ok(ending_of(served, &self.request)),
-            Err(e) => Err(e),
+            Err(e) => {
+                self.closed = closes_behind(&e, closed);
+                Err(e)
+            }
         }
+    }
+}
+
+// Whether no further piece is taken where serving failed so, and the service takes none, or does.
+fn closes_behind<W, F>(e: &ServeError<W, F>, closed: bool) -> bool
+    ensures { result ≡ closed_behind e.now closed }
+{
+    match e {
+        ServeError::Write(_) => true,
+        _ => closed,
     }
 }
 

@@ -17,6 +17,9 @@ pub returns-in-Ok-clause-closes : goal.returns-in-Ok-clause-closes
 returns-in-Ok-clause-closes g c = closed_told _ _ _ _ _ _ _ _ (returns-in-Ok-clause-served g c) refl
 
 pub returns-in-Err-clause-failed : goal.returns-in-Err-clause-failed
-returns-in-Err-clause-failed g c =
-    rw (c.into_parts-request.ensures.request, c.into_parts-request.ensures.store, c.into_parts-request.ensures.closed)
-    (rw (c.new-session.ensures, c.replace-request.ensures.value, c.replace-values.ensures.value) at c.in-Err.ensures.failed)
+returns-in-Err-clause-failed g c = (
+  c.into_parts-request.result.2,
+  c.closes_behind-self.ensures,
+  rw (c.into_parts-request.ensures.request, c.into_parts-request.ensures.store, c.into_parts-request.ensures.closed)
+      (rw (c.new-session.ensures, c.replace-request.ensures.value, c.replace-values.ensures.value) at c.in-Err.ensures.failed),
+)
