@@ -1,5 +1,5 @@
 -- Parts, one after another.
-use Rattle.std.proofs.Common.{◌≡◌, length, Bool, ℕ, ◌+◌, List, [], ◌∷◌, ◌++◌, Option, Result, Ok, Err, true, false, inl, sym, ap, subst, ◌∙◌, refl, arith}
+use Rattle.std.proofs.Common.{◌≡◌, length, Bool, ℕ, ◌+◌, List, [], ◌∷◌, ◌++◌, Option, Result, Ok, Err, true, false, ◌⊎◌, inl, inr, sym, ap, subst, ◌∙◌, refl, arith}
 use Rattle.body_reader.specs.Between.{EachGave}
 use Rattle.body_reader.specs.BetweenLaws.{EachGave-joins, EachGave-none, StopsFor-after}
 use Rattle.body_reader.specs.BodyReader.{NoPayload, TookWholeBody, handed_of}
@@ -14,8 +14,8 @@ use Rattle.multipart.specs.Multipart.{FormState, NextPart, codes}
 use Rattle.buffer_redux.specs.StreamLog.{StreamLog}
 use Rattle.parts.specs.declared.error.RunError.{RunError}
 use Rattle.parts.specs.declared.error.RunError.TheVariants as Run
-use Rattle.parts.specs.Sections.{InText, InTurns, SaysName, NextFails, NoneNamed, PassedAll, PutsBytes, TakesText, TextEnds, TextFails, TookText, Turn, WroteNamed, written}
-use Rattle.parts.proofs.Passing.{ComesBehind, inside_on, next_comes}
+use Rattle.parts.specs.Sections.{BehindText, InText, InTurns, LastWhole, SaysName, NextFails, NoneNamed, PassedAll, PutsBytes, TakesText, TextEnds, TextFails, TookText, Turn, WroteNamed, written}
+use Rattle.parts.proofs.Passing.{ComesBehind, inside_on, next_behind, next_comes, text_behind}
 
 -- so many parts began
 pub record PartsSoFar {S : Type 0} (s : FormState S StdPolicy) (count : ℕ) (turns : List Turn) (t : FormState S StdPolicy)
@@ -79,6 +79,25 @@ module _ {S : Type 0} (remaining : S → Option (List ℕ)) {s m : FormState S S
         c.0,
         λ whole. c.1 (subst (λ x. TookWholeBody (codes x) m.body) (sym so.inside.coding) whole),
         next_is c.0 answer t c.2,
+      )
+
+  -- where the last text ended it stays whole: in front of the next boundary, and where no part comes
+  pub last_whole : (turns ≡ []) ⊎ TookWholeBody (codes s.body.coding) m.body → LastWhole s turns (handed_of m.body) m
+  last_whole (inl none) = inl none
+  last_whole (inr whole) = inr (
+    [],
+    text_behind remaining s.body.coding s.other s.body.reader turns so.before m so.inside so.gave whole,
+  )
+
+  pub fails_whole : (turns ≡ []) ⊎ TookWholeBody (codes s.body.coding) m.body → (text : List ℕ)
+      → (TookWholeBody (codes s.body.coding) m.body → text ≡ handed_of m.body) → (e : PartError) (t : FormState S StdPolicy)
+      → NextPart remaining std_read_rules m.stand m (Err e) t → LastWhole s turns text t
+  fails_whole (inl none) text same e t next = inl none
+  fails_whole (inr whole) text same e t next = inr (
+      subst (λ l. (wire : List ℕ) × BehindText s.body.coding s.other s.body.reader turns l wire t.body.reader)
+      (sym (same whole))
+      (next_behind remaining s.body.coding s.other s.body.reader turns so.before m so.inside so.gave e t next
+      (subst (λ c. TookWholeBody (codes c) m.body) (sym so.inside.coding) whole))
       )
 
   -- taking text stays in the part

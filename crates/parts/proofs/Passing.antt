@@ -74,6 +74,17 @@ module _ {S : Type 0} (remaining : S → Option (List ℕ)) (texts heads : JustO
 
   module _ (before : List ℕ) (s : FormState S StdPolicy) (is : InText texts heads first turns before s)
       (gave : EachGave first s.body.reader) where
+    -- where the text ended, the reader is behind it
+    pub text_behind : TookWholeBody (codes texts) s.body
+        → BehindText texts heads first turns (handed_of s.body) [] s.body.reader
+    text_behind whole = record {
+      before = before;
+      bytes = s.body.taken;
+      parts = is.parts;
+      whole = whole;
+      order = subst (λ l. ReadsInOrder first (before ++ l) s.body.reader) (sym (append-nil s.body.taken)) is.order;
+    }
+
     -- a text that doesn't end
     pub text_fails : (e : PartError) (t : FormState S StdPolicy) → LeavesText remaining std_read_rules s (Err e) t
         → NextFails texts heads first turns (handed_of t.body) s.limits e t
@@ -235,6 +246,11 @@ module _ {S : Type 0} (remaining : S → Option (List ℕ)) (texts heads : JustO
       goes_on answer t (inr (e, (why, is', head), same)) =
           subst (λ x. Comes x t) (sym (same ∙ ap Err is')) (fails (is_full s) refl why t head)
 
+      fails_behind : (e : PartError) (t : FormState S StdPolicy) → GoesOnFromHead remaining std_read_rules behind (Err e) t
+          → (wire : List ℕ) × BehindText texts heads first turns (handed_of b) wire t.body.reader
+      fails_behind e t (inl (m, more, head, end, same)) = absurd (let odd = same in cc)
+      fails_behind e t (inr (e', (why, is', head), same)) = (t.body.taken, behind_text head)
+
     -- what comes of going on to the next part: the text is this, and where it had ended it is what had come
     abbrev NextComes : Result Bool PartError → FormState S StdPolicy → Type 0
     NextComes answer t = (text : List ℕ) × (TookWholeBody (codes s.body.coding) s.body → text ≡ handed_of s.body)
@@ -253,9 +269,32 @@ module _ {S : Type 0} (remaining : S → Option (List ℕ)) (texts heads : JustO
       subst (λ x. ComesBehind texts heads first turns (handed_of t.body) s.limits x t) (sym same) (text_fails e t leaves),
     )
 
+    -- also what fails is behind a text that had ended
+    passes_behind : (e : PartError) (t : FormState S StdPolicy) → PassesText remaining std_read_rules s (Err e) t
+        → TookWholeBody (codes s.body.coding) s.body
+        → (wire : List ℕ) × BehindText texts heads first turns (handed_of s.body) wire t.body.reader
+    passes_behind e t (inl (m, (b, h, drains, last, same), goes)) whole =
+        subst (λ d. (wire : List ℕ) × BehindText texts heads first turns (handed_of d) wire t.body.reader)
+        (drains.takes.ended whole)
+        (fails_behind b h drains last e t (subst (λ x. GoesOnFromHead remaining std_read_rules x (Err e) t) same goes))
+    passes_behind e t (inr (e', same, leaves)) whole = (
+      [],
+      subst (λ d. BehindText texts heads first turns (handed_of s.body) [] d.reader) (sym (leaves.1.takes.ended whole))
+          (text_behind (subst (λ c. TookWholeBody (codes c) s.body) is.coding whole)),
+    )
+
+    from_text : (answer : Result Bool PartError) (t : FormState S StdPolicy)
+        → NextPart remaining std_read_rules s.stand s answer t → PassesText remaining std_read_rules s answer t
+    from_text answer t next = elim is.stands [
+      | inl preamble ↦ subst (λ x. NextPart remaining std_read_rules x s answer t) preamble next
+      | inr part ↦ subst (λ x. NextPart remaining std_read_rules x s answer t) part next
+    ]
+
     pub next_comes : (answer : Result Bool PartError) (t : FormState S StdPolicy)
         → NextPart remaining std_read_rules s.stand s answer t → NextComes answer t
-    next_comes answer t next = elim is.stands [
-      | inl preamble ↦ passes answer t (subst (λ x. NextPart remaining std_read_rules x s answer t) preamble next)
-      | inr part ↦ passes answer t (subst (λ x. NextPart remaining std_read_rules x s answer t) part next)
-    ]
+    next_comes answer t next = passes answer t (from_text answer t next)
+
+    pub next_behind : (e : PartError) (t : FormState S StdPolicy) → NextPart remaining std_read_rules s.stand s (Err e) t
+        → TookWholeBody (codes s.body.coding) s.body
+        → (wire : List ℕ) × BehindText texts heads first turns (handed_of s.body) wire t.body.reader
+    next_behind e t next = passes_behind e t (from_text (Err e) t next)

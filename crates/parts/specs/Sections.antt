@@ -216,6 +216,11 @@ abbrev pub LeavesNext : {S : Type 0} → FormState S StdPolicy → List Turn →
 LeavesNext s turns text why t = (head : List ℕ) × InTurns s (record { text = text; head = head } ∷ turns) t
     × TextFails s (handed_of t.body) why t
 
+-- these parts, if any, were passed, and the last has this text, whole
+abbrev pub LastWhole : {S : Type 0} → FormState S StdPolicy → List Turn → List ℕ → FormState S StdPolicy → Type 0
+LastWhole s turns text t = (turns ≡ [])
+    ⊎ ((wire : List ℕ) × BehindText s.body.coding s.other s.body.reader turns text wire t.body.reader)
+
 -- how a list of these parts ended, of which the last has this text: all were passed; or their lines weren't all written; or there
 -- is a cause why no part was begun behind them, or the text of one was left
 abbrev pub ListEnds : {S : Type 0} → FormState S StdPolicy → List Turn → List ℕ → Result (Unit {0}) RunError
@@ -224,7 +229,8 @@ ListEnds s turns text (Ok x) t = PassedAll s.body.coding s.other s.body.reader t
 ListEnds s turns text (Err (Write e)) t =
     InTurns s turns t × (0 < length turns) × TextWhole s t × (text ≡ handed_of t.body)
 ListEnds s turns text (Err Missing) t = ⊥
-ListEnds s turns text (Err why) t = NoneBegins s turns text why t ⊎ LeavesNext s turns text why t
+ListEnds s turns text (Err why) t =
+    (NoneBegins s turns text why t × LastWhole s turns text t) ⊎ LeavesNext s turns text why t
 
 module _ {S T : Type 0} (tells : T → StreamLog) (trace : T → T → Type 0) where
   -- the text of the first part of this name was written

@@ -3,7 +3,7 @@ use Rattle.std.proofs.Common.{[], Ok, Err, true, false, inl, inr, refl, ap, arit
 use Rattle.std.proofs.lemmas.Result.{err_from_is_err_and}
 use Rattle.body_reader.specs.BodyReader.{handed_of}
 use Rattle.parts.proofs.Listing.{left, lined, lines_on, puts_none}
-use Rattle.parts.proofs.Parts.{comes, ends_on, parts_none, parts_on, still_inside}
+use Rattle.parts.proofs.Parts.{comes, ends_on, fails_whole, last_whole, parts_none, parts_on, still_inside}
 use Rattle.parts.proofs.list.list.Goals as goal
 
 pub loop-part-init : goal.loop-part-init
@@ -23,7 +23,11 @@ returns-in_err-next_part g c =
     rw (p.1, p.2) (record {
       turns = i.turns;
       text = next.0;
-      ends = inl next.2;
+      ends = inl (
+        next.2,
+        fails_whole g.R.TellRead.remaining i.so i.ended next.0 next.1 c.in_err-next_part.field-0.0 c.next_part.new.self
+            c.in_err-next_part.ensures.next,
+      );
       puts = lines_on g.W.Tell.log g.W.TellWrite.trace _ _ i.turns _ next.0 i.ended next.1 i.puts;
     })
 
@@ -93,6 +97,9 @@ returns g c =
     record {
       turns = i.turns;
       text = _;
-      ends = inl ((i.so.before, i.so.inside), i.so.gave, omega (arith, i.so.many, c.loop-part-test.false), refl);
+      ends = inl (
+        ((i.so.before, i.so.inside), i.so.gave, omega (arith, i.so.many, c.loop-part-test.false), refl),
+        last_whole g.R.TellRead.remaining i.so i.ended,
+      );
       puts = i.puts;
     }
