@@ -1,15 +1,20 @@
 -- What the search for several bytes comes to.
-use Rattle.std.proofs.Common.{◌≡◌, ℕ, ◌+◌, ◌-◌, ◌<◌, ◌≤◌, List, ◌++◌, length, take, drop, min, sym, subst, arith, refl, inl, inr, length-take-le, length-drop}
+use Rattle.std.proofs.Common.{◌≡◌, ◌≢◌, ℕ, ◌+◌, ◌-◌, ◌<◌, ◌≤◌, List, ◌++◌, length, take, drop, min, sym, subst, ap, ◌∙◌, arith, inl, inr, append_assoc, length-take-le, length-drop}
+use Rattle.std.proofs.Math.Seq.{take-append-add}
 use Rattle.std.proofs.lemmas.Bool.{cases_lt}
 use Rattle.std.proofs.lemmas.List.{take-append-drop, take_all}
 use Rattle.memchr.specs.Find.{FindsNeedle, Nowhere, OccursAt}
 use Rattle.std.specs.Prelude.{None, Some}
-use Rattle.buffer_redux.specs.OccursLaws.{OccursAt-behind, OccursAt-fewer, OccursAt-later, OccursAt-more, OccursAt-take}
+use Rattle.buffer_redux.specs.OccursLaws.{OccursAt-behind, OccursAt-fewer, OccursAt-front, OccursAt-last, OccursAt-later, OccursAt-more, OccursAt-take}
 use Rattle.piece_reader.specs.Decoding.{IsPiece}
 use Rattle.piece_reader.specs.Grammar.{IsOpenBelow}
 use Rattle.piece_reader.specs.GrammarLaws.{lacks_one}
-use Rattle.piece_reader.specs.Terminated.{IsSearched, terminated}
+use Rattle.piece_reader.specs.Terminated.{IsSearched, NeverEnds, terminated}
 use Rattle.piece_reader.specs.TerminatedLaws.{terminated_open}
+
+-- all bytes behind a place
+pub behind_place : (from : ℕ) (bytes : List ℕ) → take (length bytes - from) (drop from bytes) ≡ drop from bytes
+behind_place from bytes = take_all (length bytes - from) (drop from bytes) (omega (arith, length-drop from bytes))
 
 module _ (end : List ℕ) where
   -- what stands in the first bytes stands in all
@@ -43,21 +48,18 @@ module _ (end : List ℕ) where
 
   module _ (bytes : List ℕ) (seen from : ℕ) (within : seen ≤ length bytes) (is : from ≡ seen - (length end - 1))
       (some : 0 < length end) (searched : (k : ℕ) → k + length end ≤ seen → ¬ OccursAt bytes end k) where
-    shown : take (length bytes - from) (drop from bytes) ≡ drop from bytes
-    shown = take_all (length bytes - from) (drop from bytes) (omega (arith, length-drop from bytes))
-
     pub found_behind : (at : ℕ) → Nowhere (OccursAt (take (length bytes - from) (drop from bytes)) end) 0 at
         → OccursAt (take (length bytes - from) (drop from bytes)) end at → FindsNeedle bytes end 0 (Some (from + at))
     found_behind at none here =
         let there : OccursAt bytes end (from + at) =
-        of_rest from bytes at (omega (arith, is, within)) (subst (λ l. OccursAt l end at) shown here) in (
+        of_rest from bytes at (omega (arith, is, within)) (subst (λ l. OccursAt l end at) (behind_place from bytes) here) in (
           record {
             low = omega arith;
             high = omega (arith, there.fits);
             before = λ k low high occurs. elim (cases_lt k from) [
               | inl front ↦ searched k (omega (arith, front, is, some)) occurs
               | inr behind ↦ none (k - from) (omega arith) (omega (arith, high, behind))
-                  (subst (λ l. OccursAt l end (k - from)) (sym shown)
+                  (subst (λ l. OccursAt l end (k - from)) (sym (behind_place from bytes))
                   (in_rest from bytes k (omega (arith, is, within)) behind occurs))
             ];
           },
@@ -70,8 +72,48 @@ module _ (end : List ℕ) where
       | inl front ↦ searched k (omega (arith, front, is, some)) occurs
       | inr behind ↦
           let here : OccursAt (take (length bytes - from) (drop from bytes)) end (k - from) =
-          subst (λ l. OccursAt l end (k - from)) (sym shown) (in_rest from bytes k (omega (arith, is, within)) behind occurs) in
+          subst (λ l. OccursAt l end (k - from)) (sym (behind_place from bytes))
+          (in_rest from bytes k (omega (arith, is, within)) behind occurs) in
           none (k - from) (omega arith) (omega (arith, here.fits)) here
+    ]
+
+  module _ (max : ℕ) (bytes : List ℕ) where
+    -- where the bytes from a place on are its front, it may come there
+    pub may_come : (at : ℕ) (rest : List ℕ) → at ≤ max → at ≤ length bytes → end ≡ drop at bytes ++ rest
+        → ¬ (NeverEnds end (max + 1) bytes)
+    may_come at rest low within is never =
+        let size : length (take at bytes) ≡ at = length-take-le at bytes within in
+        let whole : bytes ++ rest ≡ take at bytes ++ end =
+        ap (λ l. l ++ rest) (sym (take-append-drop at bytes)) ∙ append_assoc (take at bytes) (drop at bytes) rest
+        ∙ ap (λ l. take at bytes ++ l) (sym is) in
+        never rest (length (take at bytes)) (omega arith) (omega (arith, size, low))
+        (subst (λ l. OccursAt l end (length (take at bytes))) (sym whole) (OccursAt-last (take at bytes) end))
+
+    -- where it doesn't stand at a place, and goes on behind all bytes, those from there on are its front
+    fronts : (more : List ℕ) (k : ℕ) → k ≤ length bytes → length bytes < k + length end → OccursAt (bytes ++ more) end k
+        → end ≡ drop k bytes ++ take (length end - length (drop k bytes)) more
+    fronts more k within beyond occurs =
+        let size : length (take k bytes) ≡ k = length-take-le k bytes within in
+        let none : k - length (take k bytes) ≡ 0 = omega (arith, size) in
+        let whole : bytes ++ more ≡ take k bytes ++ (drop k bytes ++ more) =
+        ap (λ l. l ++ more) (sym (take-append-drop k bytes)) ∙ append_assoc (take k bytes) (drop k bytes) more in
+        let count : length end ≡ length (drop k bytes) + (length end - length (drop k bytes)) =
+        omega (arith, beyond, length-drop k bytes) in
+        let here : OccursAt (drop k bytes ++ more) end 0 =
+        subst (OccursAt (drop k bytes ++ more) end) none
+        (OccursAt-behind (take k bytes) (drop k bytes ++ more) end k (omega (arith, size))
+        (subst (λ l. OccursAt l end k) whole occurs)) in
+        sym (OccursAt-front (drop k bytes ++ more) end here) ∙ ap (λ n. take n (drop k bytes ++ more)) count
+        ∙ take-append-add (drop k bytes) more (length end - length (drop k bytes))
+
+    -- where it stands at no place up to max, and the bytes are its front from none on, it never comes
+    pub comes_never : max < length bytes → ((k : ℕ) → k ≤ max → ¬ OccursAt bytes end k)
+        → ((k : ℕ) → k < max + 1 → length bytes < k + length end → (rest : List ℕ) → end ≢ drop k bytes ++ rest)
+        → NeverEnds end (max + 1) bytes
+    comes_never long none clear more k low high occurs = elim (cases_lt (length bytes) (k + length end)) [
+      | inr fits ↦ none k (omega (arith, high)) (OccursAt-fewer bytes more end k fits occurs)
+      | inl beyond ↦ clear k high beyond (take (length end - length (drop k bytes)) more)
+          (fronts more k (omega (arith, high, long)) beyond occurs)
     ]
 
   module _ (max : ℕ) (bytes : List ℕ) (to : ℕ) (is : to ≡ min (length bytes) (max + length end)) where
@@ -98,15 +140,16 @@ module _ (end : List ℕ) where
           let size : length (take to bytes) ≡ to = length-take-le to bytes (omega (arith, is)) in
           none k (omega arith) (omega (arith, fits, size)) (of_first to bytes k (omega (arith, is)) fits occurs)
 
-      pub too_many : max + length end ≤ length bytes → (terminated end max).wrong bytes (record { 0 = max })
-      too_many many = (many, λ k low high occurs. nowhere k (omega (arith, high, is, many)) occurs, refl)
+      pub stands_nowhere : (k : ℕ) → k ≤ max → ¬ OccursAt bytes end k
+      stands_nowhere k low occurs = nowhere k (omega (arith, low, occurs.fits, is)) occurs
 
-      pub wants_byte : length bytes < max + length end → (length bytes < 1 + length bytes) × (1 + length bytes ≤ max + length end)
+      pub wants_byte : length bytes < max + length end → ¬ (NeverEnds end (max + 1) bytes)
+          → (length bytes < 1 + length bytes) × (1 + length bytes ≤ max + length end)
           × IsOpenBelow (terminated end max) (1 + length bytes) bytes
-      wants_byte few = (
+      wants_byte few may = (
         omega arith,
         omega (arith, few),
-        lacks_one (terminated end max) bytes (terminated_open end max bytes few (λ k occurs.
+        lacks_one (terminated end max) bytes (terminated_open end max bytes may (λ k occurs.
             nowhere k (omega (arith, occurs.fits, is, few)) occurs)),
       )
 

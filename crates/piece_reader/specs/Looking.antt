@@ -35,7 +35,7 @@ pub record LooksForMore {S D W : Type 0} (looks : D → LookTells W) (s : Reader
   pub all : LookedAt found bytes (rest s ++ got)
 
 -- what is left was looked at from where the last look ended
-abbrev pub LooksAtRest : {S D W : Type 0} → (D → LookTells W) → ReaderState S D → Type 0
+abbrev pub LooksAtRest : {S D W : Type 0} → (D → List ℕ → ℕ → Found W → Type 0) → ReaderState S D → Type 0
 LooksAtRest {S} {D} {W} looks s = (found : Found W) × looks s.decoder (rest s) s.seen found
 
 -- what is left was looked at so, and what came only once that was as much as was asked for

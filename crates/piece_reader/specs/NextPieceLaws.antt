@@ -1,16 +1,18 @@
 -- Laws of one call of `next`, for the proofs of those who call it.
-use Rattle.std.specs.Prelude.{◌≡◌, ℕ, ◌+◌, ◌<◌, ◌≤◌, List, [], ◌++◌, length, take, Bool, true, false, MatchBool, Option, None, Some, Result, Ok, Err}
+use Rattle.std.specs.Prelude.{◌≡◌, ℕ, ◌+◌, ◌<◌, ◌≤◌, List, [], ◌++◌, length, take, Bool, true, false, MatchBool, Option, None, Some, Result, Ok, Err, OnErr}
 use Rattle.std.proofs.Common.{sym, ap, subst, ◌∙◌, refl, arith, le_refl, inl, inr, length-append, length-drop, append_assoc, append-nil}
 use Rattle.std.proofs.Math.Seq.{take-append_seam}
 use Rattle.std.proofs.lemmas.Bool.{cases_lt}
 use Rattle.std.proofs.lemmas.List.{append_cancel_left, take_all, take-append-le}
 use Rattle.piece_reader.specs.declared.decoder.Span.{Span}
+use Rattle.piece_reader.specs.declared.error.NextError.{NextError}
 use Rattle.piece_reader.specs.declared.error.NextError.TheVariants.{Wrong, Io}
 use Rattle.piece_reader.specs.Decoding.{bytes_at}
 use Rattle.piece_reader.specs.Grammar.{Begins, Grammar, IsLawful, IsOpen}
 use Rattle.piece_reader.specs.GrammarLaws.{open_not}
 use Rattle.buffer_redux.specs.Asking.{AskedWhere}
 use Rattle.buffer_redux.specs.AskingLaws.{AskedOver-same, AskedWhere-same}
+use Rattle.buffer_redux.specs.Unbuffer.{HandsOutInOrder}
 use Rattle.piece_reader.specs.NextPiece.{AskedUnlessEnded, AsksNone, MetEnd, NextAnswer, NextAnswers, NextPiece, NoEnd, OffersMore, OffersOver, empty_reads, load_answer}
 use Rattle.piece_reader.specs.PiecesWentLaws.{PiecesWent-none, PiecesWent-unasked}
 use Rattle.piece_reader.specs.PieceReader.{ReaderState, IsPieceReader, IsSettled, left_of, rest}
@@ -172,6 +174,16 @@ NextPiece-refused remaining g s whole some e wrong =
       };
       whole = whole;
     }
+
+-- an `Err` hands nothing out
+pub NextPiece-kept : {S D W : Type 0} (remaining : S → Option (List ℕ)) (g : Grammar W) (s t : ReaderState S D)
+    (answer : Result (Option Span) (NextError W)) → NextPiece remaining g s (load_answer answer t) t
+    → OnErr answer (HandsOutInOrder (left_of s) [] (left_of t))
+NextPiece-kept remaining g s t (Ok found) next = tt
+NextPiece-kept remaining g s t (Err (Wrong e)) next =
+    subst (λ l. HandsOutInOrder (left_of s) l (left_of t)) next.answers.0 next.went.hands
+NextPiece-kept remaining g s t (Err (Io e)) next =
+    subst (λ l. HandsOutInOrder (left_of s) l (left_of t)) next.answers.0 next.went.hands
 
 -- two beginnings of the same bytes agree as far as both go
 pub fronts_agree : (front more left got : List ℕ) → front ++ more ≡ left ++ got

@@ -1,5 +1,5 @@
 -- What contracts see of a reader of pieces.
-use Rattle.std.specs.Prelude.{◌≡◌, ℕ, ◌+◌, ◌*◌, ◌≤◌, ◌⊎◌, List, [], drop, take, length, max, Bool, true, false}
+use Rattle.std.specs.Prelude.{◌≡◌, ℕ, ◌+◌, ◌*◌, ◌<◌, ◌≤◌, ◌⊎◌, List, [], drop, take, length, max, Bool, true, false}
 use Rattle.buffer_redux.specs.Block.{Block, IsBlock, OnlyRingMoves, Plain, with_limit}
 use Rattle.buffer_redux.specs.Buffered.{Buffered}
 use Rattle.buffer_redux.specs.Potential.{potential}
@@ -69,9 +69,11 @@ pub record IsOver {S D : Type 0} (tells : S → StreamLog) (most : ℕ) (buffer 
 abbrev pub IsSettled : {S D W : Type 0} → Grammar W → ReaderState S D → Type 0
 IsSettled {S} {D} {W} g f = (f.ended ≡ true) ⊎ Begins g (rest f) ⊎ ((e : W) × g.wrong (rest f) e)
 
--- the first bytes that were left were dropped, and nothing else was done
+-- the first bytes that were left were dropped, if any, and nothing else was done
 pub record Skips {S D W : Type 0} (g : Grammar W) (s : ReaderState S D) (count : ℕ) (t : ReaderState S D) : Type 0 where
-  pub same : t ≡ record s { handed = s.handed + count; seen = 0 }
+  pub same : t ≡ record s { handed = s.handed + count; seen = t.seen }
+  pub none : count ≡ 0 → t.seen ≡ s.seen
+  pub some : 0 < count → t.seen ≡ 0
   pub whole : IsPieceReader g t
 
 -- a reader of pieces was taken apart into the inner reader and a buffer with the bytes that weren't handed out, which may not

@@ -1,6 +1,6 @@
 -- What follows where a reader only looked at more bytes.
 use Rattle.std.specs.Prelude.{◌≡◌, ℕ, ◌≤◌, List, [], Option, None, Some, Result, Ok, Err, IfOk, IfSome, OnErr}
-use Rattle.std.proofs.Common.{sym, ap, subst, arith}
+use Rattle.std.proofs.Common.{ap, subst, arith}
 use Rattle.buffer_redux.specs.Unbuffer.{HandsOutInOrder}
 use Rattle.buffer_redux.specs.UnbufferLaws.{HandsOutInOrder-same}
 use Rattle.piece_reader.specs.declared.decoder.Span.{Span}
@@ -10,7 +10,7 @@ use Rattle.piece_reader.specs.Grammar.{Grammar}
 use Rattle.piece_reader.specs.Items.{NextItem}
 use Rattle.piece_reader.specs.NextPiece.{NextAnswer, NextAnswers, NextBuffered, NextPiece, PiecesWent, StaysLeft, StaysLooked}
 use Rattle.piece_reader.specs.PiecesWentLaws.{PiecesWent-inside}
-use Rattle.piece_reader.specs.PieceReader.{IsSettled, ReaderState, left_of, rest}
+use Rattle.piece_reader.specs.PieceReader.{ReaderState, left_of, rest}
 
 -- what a call does is what it would have done with fewer bytes looked at
 module _ {S D W : Type 0} (remaining : S → Option (List ℕ)) (g : Grammar W) (s t : ReaderState S D) (seen : ℕ)
@@ -58,10 +58,6 @@ module _ {S D W : Type 0} (remaining : S → Option (List ℕ)) (g : Grammar W) 
   pub StaysLeft-went : PiecesWent remaining g.most s [] m
   StaysLeft-went = PiecesWent-inside remaining g.most s m [] (ap (λ x. x.reader) stays.same) (ap (λ x. x.decoder) stays.same)
       (ap (λ x. rest x) stays.same)
-
-  -- what was settled is so still
-  pub StaysLeft-settled : IsSettled g s → IsSettled g m
-  StaysLeft-settled is = subst (IsSettled g) (sym stays.same) is
 
   -- what the next call does is what it would have done before
   pub StaysLeft-next : (t : ReaderState S D) (answer : NextAnswer W) → NextPiece remaining g m answer t

@@ -1,10 +1,10 @@
 -- Laws of pieces that several bytes end.
-use Rattle.std.specs.Prelude.{ℕ, ◌+◌, ◌<◌, List, ◌++◌, length}
-use Rattle.std.proofs.Common.{sym, ap, subst, ◌∙◌, arith, length-append}
-use Rattle.memchr.specs.Find.{OccursAt}
-use Rattle.buffer_redux.specs.OccursLaws.{OccursAt-fewer, OccursAt-last, OccursAt-more, OccursAt-one}
+use Rattle.std.specs.Prelude.{ℕ, ◌+◌, ◌<◌, List, [], ◌++◌, length}
+use Rattle.std.proofs.Common.{sym, ap, subst, ◌∙◌, append-nil, append_assoc, arith, length-append}
+use Rattle.memchr.specs.Find.{Nowhere, OccursAt}
+use Rattle.buffer_redux.specs.OccursLaws.{OccursAt-last, OccursAt-more, OccursAt-one, OccursAt-self}
 use Rattle.piece_reader.specs.Grammar.{IsLawful, IsOpen}
-use Rattle.piece_reader.specs.Terminated.{terminated}
+use Rattle.piece_reader.specs.Terminated.{NeverEnds, terminated}
 
 module _ (end : List ℕ) (max : ℕ) where
   -- behind the payload of a piece stands the end, whatever comes behind that
@@ -12,13 +12,13 @@ module _ (end : List ℕ) (max : ℕ) where
   ends_there p a more is = OccursAt-more p more end (length a)
       (subst (λ l. OccursAt l end (length a)) (sym is.0) (OccursAt-last a end))
 
-  -- where the end stands nowhere, and more fit, nothing is settled
-  pub terminated_open : (bytes : List ℕ) → length bytes < max + length end → ((k : ℕ) → ¬ OccursAt bytes end k)
+  -- where the end stands nowhere, and may come, nothing is settled
+  pub terminated_open : (bytes : List ℕ) → ¬ (NeverEnds end (max + 1) bytes) → ((k : ℕ) → ¬ OccursAt bytes end k)
       → IsOpen (terminated end max) bytes
-  terminated_open bytes few none = record {
+  terminated_open bytes may none = record {
     no_piece = λ b. none (length b.payload)
         (subst (λ l. OccursAt l end (length b.payload)) (sym b.equal) (ends_there b.piece b.payload b.more b.is));
-    not_wrong = λ e wrong. omega (arith, few, wrong.0);
+    not_wrong = λ e wrong. may wrong.0;
   }
 
   pub terminated_lawful : 0 < length end → IsLawful (terminated end max)
@@ -27,15 +27,15 @@ module _ (end : List ℕ) (max : ℕ) where
     some = λ p a is. omega (arith, some, ap length is.0, length-append a end);
     room = omega (arith, some);
     apart = λ p a more e is wrong.
-        wrong.1 (length a) (omega arith) (omega (arith, is.1)) (ends_there p a more is);
-    reason = λ bytes e e' wrong wrong'. wrong.2 ∙ sym wrong'.2;
+        wrong.0 [] (length a) (omega arith) (omega (arith, is.1)) (subst (λ l. OccursAt l end (length a))
+        (sym (append-nil (p ++ more))) (ends_there p a more is));
+    reason = λ bytes e e' wrong wrong'. wrong.1 ∙ sym wrong'.1;
     stays = λ bytes more e wrong. (
-      omega (arith, wrong.0, length-append bytes more),
-      λ k low high occurs. wrong.1 k low high
-          (OccursAt-fewer bytes more end k (omega (arith, high, wrong.0)) occurs),
-      wrong.2,
+      λ later. subst (λ l. Nowhere (OccursAt l end) 0 (max + 1)) (sym (append_assoc bytes more later))
+          (wrong.0 (more ++ later)),
+      wrong.1,
     );
-    nothing = λ e wrong. omega (arith, some, wrong.0);
+    nothing = λ e wrong. wrong.0 end 0 (omega arith) (omega arith) (OccursAt-self end);
     one_last = λ bytes a b is is'. is.0 ∙ sym is'.0;
     end_apart = λ bytes a e is cut. omega (arith, is.1, cut.0);
   }

@@ -1,5 +1,5 @@
 //! The reader of pieces.
-ghost use Rattle.std.specs.Prelude.{◌≡◌, ℕ, ◌+◌, ◌*◌, ◌<◌, ◌≤◌, ◌^◌, List, [], ◌++◌, drop, length, take, Ok, Err, Some, None, ◌↔◌, IfOk, IfErr, IfSome, IsOk, true};
+ghost use Rattle.std.specs.Prelude.{◌≡◌, ℕ, ◌+◌, ◌*◌, ◌<◌, ◌≤◌, ◌^◌, List, [], ◌++◌, drop, length, take, Ok, Err, Some, None, ◌↔◌, IfOk, IfErr, IfSome, IsOk, OnErr, true};
 ghost use Rattle.std.specs.Borrow.{Lends, sem};
 ghost use Rattle.buffer_redux.specs.Block.{Plain};
 ghost use Rattle.buffer_redux.specs.Buffered.{with_inner, with_policy};
@@ -289,9 +289,11 @@ impl<R: Tell, D: Decoder> PieceReader<R, D> {
         ensures left { rest self.new ≡ drop count (rest self.old) }
         ensures skips { Skips (D.grammar self.old.decoder) self.old count self.new }
     {
-        self.handed += count;
-        self.seen = 0;
-        self.note = self.decoder.no_note();
+        if count > 0 {
+            self.handed += count;
+            self.seen = 0;
+            self.note = self.decoder.no_note();
+        }
     }
 }
 
@@ -313,6 +315,7 @@ impl<R: TellRead, D: Decoder> PieceReader<R, D> {
         ensures wrong { (e : D.Wrong) → (D.grammar self.old.decoder).wrong (rest self.old) e
             → load_answer result self.new ≡ Err (NextError.Wrong e) }
         ensures ended { self.old.ended ≡ true → load_answer result self.new ≡ Ok None }
+        ensures kept { OnErr result (HandsOutInOrder (left_of self.old) [] (left_of self.new)) }
         ensures looked { LooksFromLast D.looks self.old self.new }
         ensures next { NextPiece R.remaining (D.grammar self.old.decoder) self.old (load_answer result self.new) self.new }
     {

@@ -1,14 +1,16 @@
 //! Pieces that several bytes end, as an empty line behind a head.
-ghost use Rattle.std.specs.Prelude.{ℕ, ◌+◌, ◌<◌, ◌≤◌, ◌^◌, length};
+ghost use Rattle.std.specs.Prelude.{◌≡◌, ℕ, ◌+◌, ◌<◌, ◌≤◌, ◌^◌, length, IsTrue, false};
 ghost use Rattle.memchr.specs.Find.{FindsNeedle, OccursAt};
+ghost use Rattle.piece_reader.specs.Terminated.{NeverEnds};
 
 use crate::decoder::{Decoder, End, Found, Span};
 use crate::delimited::TooLong;
 use memchr::memmem;
 
 /// Pieces of at most `max` bytes, each ended by the bytes `end`, which aren't counted: a piece goes up to where these stand
-/// first. What stands behind the last end is a piece too, where it is something; `Ended` of `codec` refuses that. One byte is
-/// a [`Delimited`](crate::Delimited). `end` has a byte or more, and with it `max` is below 2^63.
+/// first. Behind `max` bytes the first one with which none can be there is too many. What stands behind the last end is a piece
+/// too, where it is something; `Ended` of `codec` refuses that. One byte is a [`Delimited`](crate::Delimited). `end` has a byte
+/// or more, and with it `max` is below 2^63.
 ///
 /// ```
 /// let end = Vec::from_slice(alloc, b"\r\n\r\n")?;
@@ -47,12 +49,11 @@ impl Decoder for Terminated {
 
     fn decode(&self, bytes: &[u8], seen: usize, _note: &mut ()) -> Found<TooLong> {
         let end = self.end.as_slice();
-        let most = self.max + end.len();
-        let to = bytes.len().min(most);
+        let to = bytes.len().min(self.max + end.len());
         match first_end(end, &bytes[..to], seen) {
             Some(len) => Found::Piece(Span { from: 0, len }, len + end.len()),
             None => {
-                if bytes.len() < most {
+                if may_end(end, bytes, self.max) {
                     Found::More(1 + bytes.len())
                 } else {
                     Found::Wrong(TooLong(self.max))
@@ -86,4 +87,24 @@ fn first_end(end: &[u8], bytes: &[u8], seen: usize) -> Option<usize>
         Some(at) => Some(from + at),
         None => None,
     }
+}
+
+// Whether the end may come at a place up to `max`, at none of which it stands yet.
+fn may_end(end: &[u8], bytes: &[u8], max: usize) -> bool
+    requires some { 0 < length end.now }
+    requires fits { max + length end.now < 2 ^ 63 }
+    requires none { (k : ℕ) → k ≤ max → ¬ OccursAt bytes.now end.now k }
+    ensures may { IsTrue result → ¬ (NeverEnds end.now (max + 1) bytes.now) }
+    ensures never { result ≡ false → NeverEnds end.now (max + 1) bytes.now }
+    ensures few { IsTrue result → length bytes.now < max + length end.now }
+{
+    if bytes.len() <= max {
+        return true;
+    }
+    for at in bytes.len().saturating_sub(end.len() - 1)..max + 1 {
+        if end.starts_with(&bytes[at..]) {
+            return true;
+        }
+    }
+    false
 }

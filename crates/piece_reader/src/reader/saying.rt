@@ -1,11 +1,12 @@
 //! The next piece, and what it says.
-ghost use Rattle.std.specs.Prelude.{◌≡◌, ◌-◌, ◌≤◌, drop, take, Some, Ok, IfNone, IfOk, IfSome};
+ghost use Rattle.std.specs.Prelude.{◌≡◌, ◌-◌, ◌≤◌, [], drop, take, Some, Ok, IfNone, IfOk, IfSome, OnErr};
+ghost use Rattle.buffer_redux.specs.Unbuffer.{HandsOutInOrder};
 ghost use Rattle.piece_reader.specs.Decoding.{IsLent};
 ghost use Rattle.piece_reader.specs.Grammar.{Begins};
 ghost use Rattle.piece_reader.specs.Items.{IsWhole, NextItem};
 ghost use Rattle.piece_reader.specs.Looking.{LooksFromLast, LooksAtRest};
 ghost use Rattle.piece_reader.specs.NextPiece.{StaysLeft};
-ghost use Rattle.piece_reader.specs.PieceReader.{rest};
+ghost use Rattle.piece_reader.specs.PieceReader.{left_of, rest};
 
 use crate::decoder::{Found, Span};
 use crate::error::NextError;
@@ -19,6 +20,7 @@ impl<R: TellRead, D: Items> PieceReader<R, D> {
     pub fn step_item(&mut self) -> Result<Option<(D::Item, Span)>, NextError<D::Wrong>>
         ensures lends { IfOk result (λ found. IfSome found (λ said.
             IsLent (D.grammar self.new.decoder) self.new.handed self.new.reader.block.bytes said.1)) }
+        ensures kept { OnErr result (HandsOutInOrder (left_of self.old) [] (left_of self.new)) }
         ensures looked { LooksFromLast D.looks self.old self.new }
         ensures next { NextItem R.remaining (D.grammar self.old.decoder) (D.item_of self.old.decoder) self.old
             result self.new }

@@ -6,5 +6,5 @@ use Rattle.piece_reader.proofs.reader.PieceReader.skip.Goals as goal
 pub invariant_of-self : goal.invariant_of-self
 invariant_of-self g c = grind (arith, elements)
 
-pub returns : goal.returns
-returns g c = grind (arith, elements)
+pub returns-then-count-gt0 : goal.returns-then-count-gt0
+returns-then-count-gt0 g c = grind (arith, elements)

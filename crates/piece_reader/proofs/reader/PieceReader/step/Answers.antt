@@ -1,7 +1,7 @@
 -- A look alone hands nothing out, so a step behind it is this one; what is ready or wrong follows from that.
 use Rattle.std.proofs.Common.{ap}
 use Rattle.piece_reader.specs.NextPiece.{load_answer}
-use Rattle.piece_reader.specs.NextPieceLaws.{NextPiece-ready, NextPiece-wrong}
+use Rattle.piece_reader.specs.NextPieceLaws.{NextPiece-kept, NextPiece-ready, NextPiece-wrong}
 use Rattle.piece_reader.proofs.Lending.{lends_piece}
 use Rattle.piece_reader.proofs.Loading.{next_looked, takes_shown}
 use Rattle.piece_reader.proofs.Looking.{looks_on}
@@ -32,6 +32,9 @@ returns-in-More-clause-next g c =
     let t = c.load_apart.new.self in
     next_looked g.R.TellRead.remaining g.D.Decoder.grammar c.args.self.now c.take.new.self t c.in-More.need
     (load_answer c.load_apart.result t) c.take.ensures.before c.in-More.ensures.takes c.load_apart.ensures.next
+
+pub returns-in-More-clause-kept : goal.returns-in-More-clause-kept
+returns-in-More-clause-kept g c = NextPiece-kept _ _ _ _ c.load_apart.result (returns-in-More-clause-next g c)
 
 pub returns-in-Piece-clause-lends : goal.returns-in-Piece-clause-lends
 returns-in-Piece-clause-lends g c =

@@ -2,7 +2,9 @@
 use Rattle.std.proofs.Common.{◌-◌, Err, None, Ok, Some, ap, drop, subst, take, ◌∙◌}
 use Rattle.buffer_redux.specs.Unbuffer.{HandsOutInOrder}
 use Rattle.buffer_redux.specs.UnbufferLaws.{HandsOutInOrder-same}
+use Rattle.piece_reader.specs.declared.error.NextError.TheVariants.{Wrong}
 use Rattle.piece_reader.specs.NextPiece.{NextPiece, load_answer}
+use Rattle.piece_reader.specs.NextPieceLaws.{NextPiece-kept}
 use Rattle.piece_reader.specs.PieceReader.{left_of}
 use Rattle.piece_reader.proofs.Lending.{lends_piece}
 use Rattle.piece_reader.proofs.Loading.{next_looked}
@@ -68,6 +70,7 @@ returns-in-Ok-None g c =
     let t = c.load_apart.new.self in
     record {
       lends = tt;
+      kept = tt;
       looked = looks_on g.D.Decoder.looks s m t c.in-More.need c.in-More.ensures.looks c.in-More.ensures.takes.3
           c.load_apart.ensures.looked;
       next = record {
@@ -85,17 +88,16 @@ returns-in-Err g c =
     let s = c.args.self.now in
     let m = c.take.new.self in
     let t = c.load_apart.new.self in
+    let next = next_looked remaining g.D.Decoder.grammar s m t c.in-More.need (Err c.in-Err.e) c.take.ensures.before
+    c.in-More.ensures.takes
+    (subst (λ r. NextPiece remaining (g.D.Decoder.grammar m.decoder) m (load_answer r t) t) c.in-Err.is
+    c.load_apart.ensures.next) in
     record {
       lends = tt;
+      kept = NextPiece-kept remaining (g.D.Decoder.grammar s.decoder) s t (Err c.in-Err.e) next;
       looked = looks_on g.D.Decoder.looks s m t c.in-More.need c.in-More.ensures.looks c.in-More.ensures.takes.3
           c.load_apart.ensures.looked;
-      next = record {
-        next = next_looked remaining g.D.Decoder.grammar s m t c.in-More.need (Err c.in-Err.e) c.take.ensures.before
-            c.in-More.ensures.takes
-            (subst (λ r. NextPiece remaining (g.D.Decoder.grammar m.decoder) m (load_answer r t) t) c.in-Err.is
-            c.load_apart.ensures.next);
-        says = tt;
-      };
+      next = record { next = next; says = tt };
     }
 
 pub returns-in-Wrong-clause-next : goal.returns-in-Wrong-clause-next
@@ -106,6 +108,10 @@ returns-in-Wrong-clause-next g c =
           c.in-Wrong.e c.in-Wrong.ensures.takes.0 c.in-Wrong.ensures.takes.1 c.take.ensures.before;
       says = tt;
     }
+
+pub returns-in-Wrong-clause-kept : goal.returns-in-Wrong-clause-kept
+returns-in-Wrong-clause-kept g c =
+    NextPiece-kept _ _ _ _ (Err (Wrong c.in-Wrong.e)) (returns-in-Wrong-clause-next g c).next
 
 pub returns-in-Ok-Some-clause-looked : goal.returns-in-Ok-Some-clause-looked
 returns-in-Ok-Some-clause-looked g c =

@@ -1,9 +1,9 @@
 -- By the note the end stands nowhere in what was looked at, so what the search finds or lacks, all bytes do.
-use Rattle.std.proofs.Common.{◌≡◌, ◌+◌, ◌≤◌, ℕ, ap, arith, length, min, subst, sym, take}
+use Rattle.std.proofs.Common.{◌≡◌, ◌+◌, ◌≤◌, ℕ, ap, arith, length, min, refl, subst, sym, take}
 use Rattle.memchr.specs.Find.{Nowhere, OccursAt}
 use Rattle.piece_reader.specs.Decoding.{IsPiece}
-use Rattle.piece_reader.specs.Terminated.{terminated}
-use Rattle.piece_reader.proofs.Terminating.{found_terminated, searched_all, seen_before, too_many, wants_byte}
+use Rattle.piece_reader.specs.Terminated.{NeverEnds, terminated}
+use Rattle.piece_reader.proofs.Terminating.{found_terminated, searched_all, seen_before, stands_nowhere, wants_byte}
 use Rattle.piece_reader.proofs.terminated.TerminatedDecoder.decode.Goals as goal
 use Rattle.piece_reader.proofs.terminated.TerminatedDecoder.decode.Goals.{After-first_end, After-min-to}
 
@@ -41,23 +41,33 @@ none : (c : After-first_end)
 none c h = subst (λ l. Nowhere (OccursAt (take c.min-to.result c.args.bytes.now) l) 0
     (length (take c.min-to.result c.args.bytes.now) + 1)) c.as_slice-end.ensures.value h
 
-pub returns-then-bytes-most-clause-finds : goal.returns-then-bytes-most-clause-finds
-returns-then-bytes-most-clause-finds c =
+pub may_end-requires-clause-none : goal.may_end-requires-clause-none
+may_end-requires-clause-none c =
+    stands_nowhere c.as_slice-end.result.now c.args.self.now.max c.args.bytes.now c.min-to.result c.min-to.ensures
+    c.in-None.ensures
+
+pub returns-then-may_end-clause-finds : goal.returns-then-may_end-clause-finds
+returns-then-may_end-clause-finds c =
     let d = c.args.self.now in
-    let at = (goal.at.returns-then-bytes-most-clause-finds c) in
+    let at = (goal.at.returns-then-may_end-clause-finds c) in
+    let same = c.as_slice-end.ensures.value in
     wants_byte d.end.items d.max c.args.bytes.now c.min-to.result (looked at.After-min-to)
-    (none at.After-first_end c.in-None.ensures) (omega (arith, c.if-bytes-most.true, ap length c.as_slice-end.ensures.value))
+    (none at.After-first_end c.in-None.ensures)
+    (omega (arith, c.may_end.ensures.few c.if-may_end.true, ap length same))
+    (subst (λ l. ¬ (NeverEnds l (d.max + 1) c.args.bytes.now)) same (c.may_end.ensures.may c.if-may_end.true))
 
-pub returns-then-bytes-most-clause-leaves : goal.returns-then-bytes-most-clause-leaves
-returns-then-bytes-most-clause-leaves c =
+pub returns-then-may_end-clause-leaves : goal.returns-then-may_end-clause-leaves
+returns-then-may_end-clause-leaves c =
     let d = c.args.self.now in
-    let at = (goal.at.returns-then-bytes-most-clause-leaves c) in
+    let at = (goal.at.returns-then-may_end-clause-leaves c) in
     searched_all d.end.items d.max c.args.bytes.now c.min-to.result (looked at.After-min-to)
-    (none at.After-first_end c.in-None.ensures) (omega (arith, c.if-bytes-most.true, ap length c.as_slice-end.ensures.value))
+    (none at.After-first_end c.in-None.ensures)
+    (omega (arith, c.may_end.ensures.few c.if-may_end.true, ap length c.as_slice-end.ensures.value))
 
-pub returns-else-bytes-most-clause-finds : goal.returns-else-bytes-most-clause-finds
-returns-else-bytes-most-clause-finds c =
-    let d = c.args.self.now in
-    let at = (goal.at.returns-else-bytes-most-clause-finds c) in
-    too_many d.end.items d.max c.args.bytes.now c.min-to.result (looked at.After-min-to)
-    (none at.After-first_end c.in-None.ensures) (omega (arith, c.if-bytes-most.false, ap length c.as_slice-end.ensures.value))
+pub returns-else-may_end-clause-finds : goal.returns-else-may_end-clause-finds
+returns-else-may_end-clause-finds c =
+    let d = c.args.self.now in (
+      subst (λ l. NeverEnds l (d.max + 1) c.args.bytes.now) c.as_slice-end.ensures.value
+          (c.may_end.ensures.never c.if-may_end.false),
+      refl,
+    )
