@@ -120,3 +120,9 @@ module _ (limits : Limits) (line : 16 ≤ limits.line) (fields : List (List ℕ)
     chunks = rw h.equal (has_chunks h.payloads h.carried);
     equal = h.joined;
   }
+
+-- so are chunks of these payloads, with no trailers
+pub chunks_body : (limits : Limits) → 16 ≤ limits.line → (payloads : List (List ℕ)) → All IsCarried payloads
+    → IsBodyOfChunks limits (flat_map chunk payloads ++ body_end []) (concat payloads)
+chunks_body limits line payloads carried = IsChunks-body limits line [] tt (omega arith) (flat_map chunk payloads)
+    (concat payloads) (record { payloads = payloads; carried = carried; equal = refl; joined = refl })
