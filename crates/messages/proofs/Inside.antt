@@ -1,8 +1,10 @@
 -- What the reader of a body does, told of a reader in one.
-use Rattle.std.proofs.Common.{◌≡◌, ◌↔◌, ◌≤◌, ◌∙◌, ℕ, List, ◌++◌, take, drop, Option, Result, Ok, Err, ap, arith, refl, subst, sym, take-append-drop}
+use Rattle.std.proofs.Common.{◌≡◌, ◌↔◌, ◌≤◌, ◌∙◌, ℕ, List, [], ◌++◌, length, take, drop, Option, Result, Ok, Err, ap, arith, length-append, refl, subst, sym, take-append-drop}
 use Rattle.std.specs.declared.io.Error.{Error}
 use Rattle.messages.specs.Names.{after_read, append_cancel_left, body_answer, body_rules, BodyCoding, BodyWent, handed_of, handed_out, InsideGoes, IsBodyReader, IsDone, IsRoomy, Leads-done, Leads-whole, LeavesPlaces, LeavesRoom, Limits, ParsedHead, Place, Reader, ReadsAlong-stream, ReadsAsIo, ReadsPayload, room_of, Side, std_read_rules, StreamWent-unasked, TellsWhy, TookWholeBody, unbuffered, WhyNone}
+use Rattle.body_reader.specs.BodyReaderLaws.{BodyWent-leads}
 use Rattle.body_reader.specs.Coding.{heeded}
+use Rattle.body_reader.specs.CodingLaws.{Agree-nothing}
 use Rattle.body_reader.specs.declared.either.Either.TheVariants as coding
 use Rattle.body_reader.specs.declared.either.Side.TheVariants as side
 use Rattle.buffer_redux.specs.StreamLog.{StreamLog}
@@ -23,21 +25,43 @@ std_stays : LeavesPlaces {Q = StdPolicy} std_read_rules
 std_stays p b n p' b' left = ap (λ b. b.moved) left.1
 
 -- a body of a length ended where no byte is left of it
-none_due : (c : BodyCoding) (p : Side ℕ Place) (n : ℕ) → (body_rules c).is_place p → p ≡ side.First n
-    → IsDone (body_rules c) p ↔ n ≡ 0
-none_due (coding.First c) (side.First left) n is same =
-    let all : left ≡ n = cc in (λ done. sym (done.0 ∙ all), λ none. (sym (all ∙ none), refl))
-none_due (coding.Second c) (side.Second q) n is same = absurd (cc)
-none_due c p n is same = absurd is
+none_due : (c : BodyCoding) (p : Side ℕ Place) (n : ℕ) → (body_rules c).is_place p → p ≡ side.First n → n ≡ 0
+    → IsDone (body_rules c) p
+none_due (coding.First c) (side.First left) n is same none = let all : left ≡ n = cc in (sym (all ∙ none), refl)
+none_due (coding.Second c) (side.Second q) n is same none = absurd (cc)
+none_due c p n is same none = absurd is
+
+-- and so many bytes complete it
+all_due : (c : BodyCoding) (p : Side ℕ Place) (n : ℕ) (wire payload : List ℕ) → p ≡ side.First n
+    → (body_rules c).completes p wire payload → length wire ≡ n
+all_due (coding.First c) (side.First left) n wire payload same done = let all : left ≡ n = cc in done.0 ∙ all
+all_due (coding.Second c) (side.Second q) n wire payload same done = absurd (cc)
+all_due c p n wire payload same done = absurd done
 
 pub sized_ended : {R : Type 0} (d : Reader R) → IsBodyReader (body_rules d.coding) d → (n : ℕ) → d.place ≡ side.First n
     → TookWholeBody (body_rules d.coding) d ↔ n ≡ 0
 sized_ended d is n same =
-    let g = heeded (body_rules d.coding) d.reader.block.bytes in
-    let due = none_due d.coding d.place n is.place same in (
-      λ whole. due.0 (Leads-done (body_rules d.coding) (body_lawful d.coding) d.taken (handed_of d) d.place g is.leads is.place
-          whole),
-      λ none. Leads-whole (body_rules d.coding) d.taken (handed_of d) d.place g is.leads (due.1 none),
+    let g = heeded (body_rules d.coding) d.reader.block.bytes in (
+      λ whole. sym (all_due d.coding d.place n [] [] same
+          (Leads-done (body_rules d.coding) (body_lawful d.coding) d.taken (handed_of d) d.place g is.leads is.place whole)),
+      λ none. Leads-whole (body_rules d.coding) d.taken (handed_of d) d.place g is.leads
+          (none_due d.coding d.place n is.place same none),
+    )
+
+-- who goes on to its end takes just those
+pub sized_took : {R : Type 0} {remaining : R → Option (List ℕ)} {s t : Reader R} {handed : List ℕ}
+    → IsBodyReader (body_rules s.coding) s → IsBodyReader (body_rules s.coding) t
+    → (went : BodyWent remaining std_read_rules (body_rules s.coding) s handed t) → TookWholeBody (body_rules s.coding) t
+    → (n : ℕ) → s.place ≡ side.First n → length went.wire ≡ n
+sized_took {remaining = remaining} {s = s} {t = t} {handed = handed} is is' went whole n same =
+    let g = body_rules s.coding in
+    let follow = heeded g t.reader.block.bytes in
+    let done = Leads-done g (body_lawful s.coding) t.taken (handed_of t) t.place follow is'.leads is'.place whole in
+    let leads = BodyWent-leads remaining std_read_rules g s t handed is is' went in
+    omega (
+      arith,
+      all_due s.coding s.place n (went.wire ++ []) (handed ++ []) same (leads.onward [] [] (Agree-nothing follow) done),
+      length-append went.wire [],
     )
 
 -- calls of the reader

@@ -1,6 +1,6 @@
 -- Laws of messages.
-use Rattle.std.specs.Prelude.{◌≡◌, ℕ, List, [], ◌∷◌, ◌++◌, length, Option, Some, Ok}
-use Rattle.std.proofs.Common.{sym, ap, subst, ◌∙◌, arith, refl, append_assoc, append-nil, inl, inr}
+use Rattle.std.specs.Prelude.{◌≡◌, ℕ, ◌≤◌, List, [], ◌∷◌, ◌++◌, length, Option, Some, Ok}
+use Rattle.std.proofs.Common.{sym, ap, subst, ◌∙◌, arith, refl, append_assoc, append-nil, inl, inr, length-append}
 use Rattle.messages.specs.Names.{append_cancel_left, AreMessages, as_known, Begun, Block, body_rules, BodyCoding, BodyWent, chunked, chunked_lawful, coding_of, EachReadGave, Enters, extent_of, FinishesBody, handed_of, heads, InBody, InsideGoes, InTurn, IsBody, IsBodyReader, IsHead, IsHeadPiece, IsMessage, known_of, left_of, Limits, Message, MessagesWent, method_kind, NextPiece, Reader, ReaderState, ReadsAlong-stream, request_framing, request_unique, room_of, sized_lawful, std_read_rules, StreamWent, StreamWent-joins, TookWholeBody, Unbuffered, unbuffered}
 use Rattle.body_reader.specs.BodyReaderLaws.{BodyWent-joins, BodyWent-none}
 use Rattle.body_reader.specs.Coding.{IsLawful}
@@ -69,6 +69,20 @@ pub InTurn-joins : (Is : Message → List ℕ → Type 0) (ms ns : List Message)
 InTurn-joins Is [] ns a b is are = subst (λ l. InTurn Is ns (l ++ b)) (sym is) are
 InTurn-joins Is (m ∷ ms) ns a b (f, more, one, is, equal) are =
     (f, more ++ b, one, InTurn-joins Is ms ns more b is are, ap (λ l. l ++ b) equal ∙ append_assoc f more b)
+
+-- each has a byte
+pub AreMessages-some : (limits : Limits) (ms : List Message) (bytes : List ℕ) → AreMessages limits ms bytes
+    → length ms ≤ length bytes
+AreMessages-some limits [] bytes none = omega arith
+AreMessages-some limits (m ∷ ms) bytes (first, more, is, are, equal) = omega (
+  arith,
+  (heads_lawful limits).some m.0 m.0 is.text,
+  ap length is.equal,
+  length-append m.0 is.wire,
+  AreMessages-some limits ms more are,
+  ap length equal,
+  length-append first more,
+)
 
 pub same_room : (b c : Block) → b.capacity ≡ c.capacity → b.limit ≡ c.limit → room_of b ≡ room_of c
 same_room b c capacity limit =

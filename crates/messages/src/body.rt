@@ -116,7 +116,7 @@ impl<R: Tell> Body<R> {
     }
 
     /// The stream, for changes, as of a time limit, or to answer where it goes both ways. What is read through this is in no
-    /// message.
+    /// message. One that is put in its place is read behind what is buffered of it.
     pub fn get_mut(&mut self) -> &mut R
         ensures* writes_back { sem 𝓛 (Lends (the_row R.row R.Tell) R.row self.entry result
             (λ stream. record self.old {
@@ -201,7 +201,8 @@ impl<R: TellRead> Body<R> {
     pub fn finish(self) -> Result<Requests<R>, (Self, BodyError)>
         ensures in_order { IfOk result (λ next. (wire : List ℕ) × (got : List ℕ)
             × (next.reader.log.reads.given ≡ self.body.reader.log.reads.given ++ got)
-            × (wire ++ rest next ≡ self.body.reader.block.bytes ++ got)) }
+            × (wire ++ rest next ≡ self.body.reader.block.bytes ++ got)
+            × ((due : ℕ) → self.body.place ≡ side.First due → length wire ≡ due)) }
         ensures room { IfOk result (λ next. room_of next.reader.block ≡ room_of self.body.reader.block) }
         ensures moved { IfOk result (λ next. next.reader.block.moved ≡ self.body.reader.block.moved) }
         ensures limits { IfOk result (λ next. next.decoder ≡ record { 0 = self.limits }) }

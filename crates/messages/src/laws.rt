@@ -1,11 +1,13 @@
-//! Laws, each as the contract of a function. One that no call keeps assumes whole grammars and exact relations, so no fact of few
-//! words stands in front of it.
+//! Laws, each as the contract of a function. What its grammars and exact relations come to in lists stands in front.
 ghost use Rattle.std.specs.Prelude.{◌≡◌, ℕ, ◌<◌, ◌≤◌, List, ◌∷◌, [], ◌++◌, length, false, IfErr, IfOk, Some};
 ghost use Rattle.buffer_redux.specs.Unbuffer.{Unbuffered, unbuffer_remaining};
 ghost use Rattle.codec.specs.declared.HeaderError.{HeaderError};
+ghost use Rattle.codec.specs.declared.Header.TheVariants as header;
 ghost use Rattle.codec.specs.PieceReader.{ReaderState, left_of, rest};
-ghost use Rattle.httparse.specs.Grammar.{IsRequestHead, RequestHead, print_request};
-ghost use Rattle.messages.specs.Lines.{EndsByBoth, texts};
+ghost use Rattle.codec.specs.Scanning.{scan_on};
+ghost use Rattle.httparse.specs.Grammar.{IsRequestHead, ReadsRequest, RequestHead, print_request};
+ghost use Rattle.messages.specs.Lines.{EndsByBoth, texts, turn};
+ghost use Rattle.messages.specs.declared.lines.Before.TheVariants.{Start};
 ghost use Rattle.messages.specs.declared.head.Heads as head;
 ghost use Rattle.messages.specs.Messages.{AreMessages, Begun, EachReadGave, FinishesBody, InBody, InsideGoes, Message, MessagesWent, room_of};
 ghost use Rattle.messages.specs.declared.limits.Limits.{Limits};
@@ -18,24 +20,32 @@ use buffer_redux::tell::{Tell, TellRead};
 
 /// No beginning of the head of a request is refused by its lines, of HTTP/1.0 to 1.9, where CR LF ends each.
 pub fn never_refused()
-    ensures { (h : RequestHead) (minor : ℕ) → IsRequestHead h → minor ≤ 9 → EndsByBoth h
+    ensures right { (h : RequestHead) (minor : ℕ) → IsRequestHead h → minor ≤ 9 → EndsByBoth h
+        → length (print_request (record h { minor = minor })) ≤ 16384 → (front more : List ℕ)
+        → print_request (record h { minor = minor }) ≡ front ++ more → ¬ (scan_on turn 16384 Start 0 front ≡ header.Bad) }
+    ensures never { (h : RequestHead) (minor : ℕ) → IsRequestHead h → minor ≤ 9 → EndsByBoth h
         → length (print_request (record h { minor = minor })) ≤ 16384 → (front more : List ℕ)
         → print_request (record h { minor = minor }) ≡ front ++ more → (why : HeaderError) → ¬ (texts.wrong front why) }
 {}
 
 /// No message begins another: a text is cut into so many messages in one way.
 pub fn one_cut()
-    ensures { (limits : Limits) (messages others : List Message) (text text' behind behind' : List ℕ)
+    ensures heads { (h k : RequestHead) (bytes xs ys : List ℕ) → ReadsRequest bytes h xs → ReadsRequest bytes k ys
+        → (h ≡ k) × (xs ≡ ys) }
+    ensures one { (limits : Limits) (messages others : List Message) (text text' behind behind' : List ℕ)
         → length messages ≡ length others → AreMessages limits messages text → AreMessages limits others text'
         → text ++ behind ≡ text' ++ behind'
         → (messages ≡ others) × (behind ≡ behind') }
 {}
 
 /// However a stream is cut into reads, and whatever its reads answered: from `next` to `finish`, whatever was read of the body
-/// between, just a message goes, so the next one begins where this one ended (`one`, `many`). So of a stream that is known the
-/// messages that went are its first, and what follows them is left (`known`). Where a call failed, the reader that it hands back
-/// stands before the same head, or in the same body, of which what was taken is gone (`next`, `read` and `finish` say so).
+/// between, just a message goes, so the next one begins where this one ended (`one`, `many`), as the bytes of both calls show
+/// (`joins`). So of a stream that is known the messages that went are its first, and what follows them is left (`known`). Where a
+/// call failed, the reader that it hands back stands before the same head, or in the same body, of which what was taken is gone
+/// (`next`, `read` and `finish` say so).
 pub fn no_byte_between<R: TellRead>(requests: &Requests<R>)
+    ensures joins { (before head left wire got more : List ℕ) → head ++ left ≡ before ++ got
+        → wire ++ rest requests.now ≡ left ++ more → (head ++ wire) ++ rest requests.now ≡ before ++ (got ++ more) }
     ensures one { (s : ReaderState R head.Heads) (b m : InBody R) (handed : List ℕ) → Begun R.remaining s b
         → InsideGoes R.remaining b handed m → (ends : FinishesBody R.remaining m requests.now)
         → MessagesWent R.remaining s.decoder.0 (left_of s) ((b.head, handed ++ ends.drains.payload) ∷ [])
@@ -63,7 +73,7 @@ pub enum Stopped<R: Tell> {
 pub fn pass<R: TellRead>(requests: Requests<R>, count: usize) -> Result<Requests<R>, Stopped<R>>
     ensures in_order { IfOk result (λ next. (wire : List ℕ) × (got : List ℕ)
         × (next.reader.log.reads.given ≡ requests.reader.log.reads.given ++ got)
-        × (wire ++ rest next ≡ rest requests ++ got)) }
+        × (wire ++ rest next ≡ rest requests ++ got) × (count ≤ length wire)) }
     ensures passed { IfOk result (λ next. (messages : List Message) × (length messages ≡ count)
         × MessagesWent R.remaining requests.decoder.0 (left_of requests) messages (left_of next)
         × EachReadGave (left_of requests) (left_of next)

@@ -182,7 +182,7 @@ impl<R: Tell> Requests<R> {
     }
 
     /// The stream, for changes, as of a time limit, or to answer where it goes both ways. What is read through this is in no
-    /// message.
+    /// message. One that is put in its place is read behind what is buffered of it.
     pub fn get_mut(&mut self) -> &mut R
         ensures* writes_back { sem 𝓛 (Lends (the_row R.row R.Tell) R.row self.entry result
             (λ stream. record self.old { reader = with_inner R.log self.old.reader stream })) }

@@ -1,6 +1,6 @@
 -- A text reads as one head, so what is found in its spans is said of that head.
-use Rattle.std.proofs.Common.{◌≡◌, ◌↔◌, ◌∙◌, ◌≤◌, ℕ, List, [], length, map, All, IsTrue, None, Some, ap, arith, inl, inr, subst, sym}
-use Rattle.messages.specs.Names.{expects, Extent, is_met, IsHeadFault, IsKnownHead, keeps, known_fields, known_of, Limits, method_kind, name_and_value, ParsedHead, ReadsRequest, request_unique, RequestHead, said_fault, text_fault}
+use Rattle.std.proofs.Common.{◌≡◌, ◌↔◌, ◌∙◌, ◌≤◌, ℕ, List, [], length, All, IsTrue, ap, arith, inl, inr, subst, sym}
+use Rattle.messages.specs.Names.{expects, is_met, IsKnownHead, keeps, known_fields, known_of, Limits, method_kind, ParsedHead, ReadsRequest, request_unique, RequestHead, said_fault}
 use Rattle.messages.proofs.Spans.{fields_counted, reads_whole}
 use Rattle.messages.proofs.head.read_known.Goals as goal
 

@@ -1,7 +1,7 @@
 -- The next message joins those that went, and it keeps the room and the limits.
 use Rattle.std.proofs.Common.{[], ◌∷◌, ◌++◌, ◌∙◌, arith, length-append, refl, subst}
 use Rattle.messages.specs.Names.{left_of, MessagesWent, StreamWent-none}
-use Rattle.messages.specs.MessagesLaws.{EachReadGave-joins, MessagesWent-joins}
+use Rattle.messages.specs.MessagesLaws.{AreMessages-some, EachReadGave-joins, MessagesWent-joins}
 use Rattle.messages.proofs.laws.pass.Goals as goal
 
 pub loop-init : goal.loop-init
@@ -48,5 +48,16 @@ returns-in-Err-clause-stopped g c =
 
 pub returns-clause-in_order : goal.returns-clause-in_order
 returns-clause-in_order g c =
-    let went = c.loop.invariant.went in
-    (went.bytes, went.went.order.got, went.went.order.given, went.went.order.equal)
+    let before = c.loop.invariant in
+    let went = before.went in (
+      went.bytes,
+      went.went.order.got,
+      went.went.order.given,
+      went.went.order.equal,
+      omega (
+        arith,
+        before.many,
+        c.loop-test.false,
+        AreMessages-some c.args.requests.decoder.0 before.messages went.bytes went.are,
+      ),
+    )

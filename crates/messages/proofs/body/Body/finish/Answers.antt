@@ -2,7 +2,7 @@
 -- reader of the body left.
 use Rattle.std.proofs.Common.{◌≡◌, ◌≤◌, ◌*◌, ◌∙◌, ap, arith, ◌++◌, refl, sym}
 use Rattle.messages.specs.Names.{left_of, room_of, unbuffered, with_limit}
-use Rattle.messages.proofs.Inside.{body_goes, body_kept, body_room, body_still}
+use Rattle.messages.proofs.Inside.{body_goes, body_kept, body_room, body_still, sized_took}
 use Rattle.messages.proofs.body.Body.finish.Goals as goal
 
 pub invariant_of-result : goal.invariant_of-result
@@ -36,6 +36,7 @@ returns-in-Ok-with_buffer-clause-in_order g c =
       order.got,
       ap (λ u. u.log.reads.given) (over g c).0 ∙ order.given,
       ap (λ u. end.1.takes.went.wire ++ u.left) (over g c).0 ∙ order.equal,
+      sized_took c.get_ref.ensures.whole end.1.takes.whole end.1.takes.went end.1.answers.1,
     )
 
 pub returns-in-Ok-with_buffer-clause-ends : goal.returns-in-Ok-with_buffer-clause-ends
