@@ -8,7 +8,7 @@ use Rattle.redux_buffer.specs.Faults.{MetInterrupts, OnlyInterrupts, OnlyInterru
 use Rattle.forward.specs.Filter.{AsksOnce, FilterRules, IsLawful, Moves, StaysOpen}
 use Rattle.forward.specs.Forward.{NoneFailed, flushed_last}
 use Rattle.forward.specs.Link.{Ask, EndsInterrupted, Goes, LinkFlushes, LinkPasses, Linked, NoneGaveUp, NotAsked}
-use Rattle.forward.specs.Steps.{AskedFrom, FlushesPerAsk, ForwardsNext, GivesUp, GoesAhead, IsQuiet, OnTrue, ReadsFew, ReadsOnlyInterrupted, StepAnswers, TakesTurn}
+use Rattle.forward.specs.Steps.{AskedFrom, CallsUpTo, ForwardsNext, GivesUp, GoesAhead, IsQuiet, OnTrue, ReadsOnlyInterrupted, StepAnswers, TakesTurn, without_payload}
 use Rattle.forward.specs.Streams.{ReadGaveUp}
 use Rattle.forward.specs.StreamsLaws.{FewReadFaults-none, MetNoFault-joins, ReadFailed-after, WriteGaveUp-after, WriteGaveUp-so}
 use Rattle.forward.specs.Target.{FlushesOnce, bytes_taken, failure_count}
@@ -32,6 +32,12 @@ module _ {T W : Type 0} (rules : FilterRules T W) where
     reader = OnlyInterrupts-same (rules.read s).reads.faults (rules.read t).reads.faults (ap (λ l. l.reads.faults) told);
     writer = met;
   }
+
+  -- where there was a payload, this follows
+  true_so : {P Q : Type 0} → (P → Q) → (answer : Result Bool (Cause W)) → OnTrue rules answer P → OnTrue rules answer Q
+  true_so so (Ok true) is = so is
+  true_so so (Ok false) is = tt
+  true_so so (Err cause) is = tt
 
   module _ (lawful : IsLawful rules) where
     -- behind those that went over before comes the next
@@ -82,35 +88,23 @@ module _ {T W : Type 0} (rules : FilterRules T W) where
       )
       behind (Err Count) once next = absurd (omega (arith, next.1))
 
-      not_given_up : (answer : Result Bool (Cause W)) (turns : List (List (Ask T))) → OnTrue rules answer (NoneGaveUp rules turns)
-          → OnTrue rules answer (NoneGaveUp rules (before.goes.turns.turns ++ turns))
-      not_given_up (Ok true) turns next =
-          All-append (λ turn. ¬ (EndsInterrupted rules turn)) before.goes.turns.turns turns before.not_given_up next
-      not_given_up (Ok false) turns next = tt
-      not_given_up (Err cause) turns next = tt
-
       module _ (answer : Result Bool (Cause W)) (next : ForwardsNext rules s answer t) where
-        abbrev pub goes_on : Goes rules Such (option_map_or flushed_last (result_err answer) 0) first t
-        goes_on =
+        pub calls_on : CallsUpTo rules Such first answer t
+        calls_on =
             let more = option_map_or flushed_last (result_err answer) 0 in
-            Goes-joins rules Such more first s t before.goes before.not_given_up
-            (Goes-weaker rules (AskedFrom rules s.filter) Such so more s t next.goes)
-
-        -- no turn gave up where a payload came
-        pub not_given_up_on : OnTrue rules answer (NoneGaveUp rules goes_on.turns.turns)
-        not_given_up_on = not_given_up answer next.goes.turns.turns next.not_given_up
-
-        pub once_on : AsksOnce rules first.filter t.filter
-        once_on = AsksOnce-joins rules first.filter s.filter t.filter before.once before.still next.once
-
-        pub reads_on : ReadsFew rules answer first.filter t.filter
-        reads_on = omega (arith, before.reads, next.reads)
-
-        pub per_ask_on : FlushesPerAsk rules answer first.filter t.filter
-        per_ask_on = omega (arith, before.per_ask, next.per_ask)
+            record {
+              goes = Goes-joins rules Such more first s t before.calls.goes before.calls.not_given_up
+                  (Goes-weaker rules (AskedFrom rules s.filter) Such so more s t next.calls.goes);
+              not_given_up = true_so (All-append (λ turn. ¬ (EndsInterrupted rules turn)) before.calls.goes.turns.turns
+                  next.calls.goes.turns.turns before.calls.not_given_up) answer next.calls.not_given_up;
+              once = AsksOnce-joins rules first.filter s.filter t.filter before.calls.once before.still next.calls.once;
+              reads = omega (arith, before.calls.reads, next.calls.reads);
+              per_ask = omega (arith, before.calls.per_ask, next.calls.per_ask);
+              ready = next.calls.ready;
+            }
 
         pub answers_on : StepAnswers rules count first.filter answer t.filter
-        answers_on = behind answer next.once next.answers
+        answers_on = behind answer next.calls.once next.answers
 
     asked_after : (a b : T) → Moves rules a [] [] b → AsksOnce rules a b → StaysOpen rules a b → (ask : Ask T)
         → AskedFrom rules b ask → AskedFrom rules a ask
@@ -123,19 +117,33 @@ module _ {T W : Type 0} (rules : FilterRules T W) where
       asks = asked.asks;
     }
 
-    -- behind what took nothing
-    module _ (a b c : T) (less : bytes_taken (rules.target a) ≤ bytes_taken (rules.target b))
-        (dropped : rules.drops → IsQuiet rules b c → IsQuiet rules a c ⊎ rules.sent c) where
-      ahead_after : GoesAhead rules b c → GoesAhead rules a c
-      ahead_after (inl more) = inl (omega (arith, less, more))
-      ahead_after (inr (drops, inl quiet)) = inr (drops, dropped drops quiet)
-      ahead_after (inr (drops, inr sent)) = inr (drops, inr sent)
+    -- behind what took no payload
+    module _ (s m : Linked T) (before : SoFar rules (AskedFrom rules s.filter) 0 s m)
+        (moves : Moves rules s.filter [] [] m.filter)
+        (received : length (rules.target s.filter).log.writes.received ≤ length (rules.target m.filter).log.writes.received)
+        (t : Linked T) (answer : Result Bool (Cause W)) (next : ForwardsNext rules m answer t) where
+      ahead : (rules.drops → IsQuiet rules m.filter t.filter → IsQuiet rules s.filter t.filter ⊎ rules.sent t.filter)
+          → GoesAhead rules m.filter t.filter → GoesAhead rules s.filter t.filter
+      ahead dropped (inl more) = inl (omega (arith, lawful.taken_on s.filter m.filter [] moves.takes, more))
+      ahead dropped (inr (drops, inl quiet)) = inr (drops, dropped drops quiet)
+      ahead dropped (inr (drops, inr sent)) = inr (drops, inr sent)
 
-      more_after : (answer : Result Bool (Cause W)) → OnTrue rules answer (GoesAhead rules b c)
-          → OnTrue rules answer (GoesAhead rules a c)
-      more_after (Ok true) next = ahead_after next
-      more_after (Ok false) next = tt
-      more_after (Err cause) next = tt
+      goes_next : FlushesOnce (rules.target s.filter) (rules.target t.filter)
+          → (rules.drops → rules.sent s.filter
+          → (rules.target t.filter).log.writes.flushes ≡ (rules.target s.filter).log.writes.flushes)
+          → (rules.drops → IsQuiet rules m.filter t.filter → IsQuiet rules s.filter t.filter ⊎ rules.sent t.filter)
+          → ForwardsNext rules s answer t
+      goes_next flushes quiet dropped =
+          let Such = AskedFrom rules s.filter in
+          let so = asked_after s.filter m.filter moves before.calls.once before.still in
+          record {
+            calls = calls_on Such 0 s m t before so answer next;
+            flushes = flushes;
+            quiet = quiet;
+            more = true_so (ahead dropped) answer next.more;
+            received = omega (arith, received, next.received);
+            answers = answers_on Such 0 s m t before so answer next;
+          }
 
     -- a payload was there; or none was, and it was asked for; or sending failed
     module _ (s m : Linked T) where
@@ -143,23 +151,24 @@ module _ {T W : Type 0} (rules : FilterRules T W) where
       unread told = OnlyInterrupts-same (rules.read s.filter).reads.faults (rules.read m.filter).reads.faults
           (ap (λ l. l.reads.faults) told)
 
-      abbrev unasked : (Such : Ask T → Type 0) (answer : Result Bool Error) → LinkPasses rules s answer m
-          → Goes rules Such (failure_count answer) s m
-      unasked Such answer p =
-          Goes-unasked rules Such (failure_count answer) s m
-          (record { told = p.passes.told; writes = p.passes.wrote.writes }) p.noted (omega (arith, p.passes.wrote.flushes))
-          p.passes.wrote.few
-
-      unasked_once : (answer : Result Bool Error) → LinkPasses rules s answer m → AsksOnce rules s.filter m.filter
-      unasked_once answer p = AsksOnce-none rules s.filter m.filter p.passes.told p.passes.closed
+      unasked : (Such : Ask T → Type 0) (answer : Result Bool Error) (next : Result Bool (Cause W))
+          → failure_count answer ≤ option_map_or flushed_last (result_err next) 0 → OnTrue rules next (NoneGaveUp rules [])
+          → LinkPasses rules s answer m → CallsUpTo rules Such s next m
+      unasked Such answer next failed none p = record {
+        goes = Goes-unasked rules Such (option_map_or flushed_last (result_err next) 0) s m
+            (record { told = p.passes.told; writes = p.passes.wrote.writes }) p.noted (omega (arith, p.passes.wrote.flushes))
+            (omega (arith, p.passes.wrote.few, failed));
+        not_given_up = none;
+        once = AsksOnce-none rules s.filter m.filter p.passes.told p.passes.closed;
+        reads = omega (arith, FewReadFaults-none (rules.read s.filter) (rules.read m.filter) p.passes.told);
+        per_ask = omega (arith, p.passes.wrote.flushes, ap (λ l. l.reads.asks) p.passes.told);
+        ready = p.passes.ready;
+      }
 
       pub passed : LinkPasses rules s (Ok true) m → ForwardsNext rules s (Ok true) m
       passed p = record {
-        goes = unasked (AskedFrom rules s.filter) (Ok true) p;
-        not_given_up = All-nil (λ turn. ¬ (EndsInterrupted rules turn));
-        once = unasked_once (Ok true) p;
-        reads = FewReadFaults-none (rules.read s.filter) (rules.read m.filter) p.passes.told;
-        per_ask = omega (arith, p.passes.wrote.flushes, ap (λ l. l.reads.asks) p.passes.told);
+        calls = unasked (AskedFrom rules s.filter) (Ok true) (Ok true) (omega arith)
+            (All-nil (λ turn. ¬ (EndsInterrupted rules turn))) p;
         flushes = inl p.passes.wrote.flushes;
         quiet = λ drops sent. p.passes.wrote.flushes;
         more = elim p.passes.answers.2 [
@@ -167,7 +176,6 @@ module _ {T W : Type 0} (rules : FilterRules T W) where
           | inr (drops, still) ↦ inr (drops, inl (p.passes.wrote.flushes, still))
         ];
         received = longer p.passes.wrote.writes;
-        ready = p.passes.ready;
         answers = (
           record { payloads = p.passes.answers.0 ∷ []; moves = p.passes.answers.1; all = refl },
           met_writes s.filter m.filter p.passes.told p.passes.wrote.ended,
@@ -177,16 +185,11 @@ module _ {T W : Type 0} (rules : FilterRules T W) where
 
       pub not_passed : (e : Error) → LinkPasses rules s (Err e) m → ForwardsNext rules s (Err (Write e)) m
       not_passed e p = record {
-        goes = unasked (AskedFrom rules s.filter) (Err e) p;
-        not_given_up = tt;
-        once = unasked_once (Err e) p;
-        reads = omega (arith, FewReadFaults-none (rules.read s.filter) (rules.read m.filter) p.passes.told);
-        per_ask = omega (arith, p.passes.wrote.flushes, ap (λ l. l.reads.asks) p.passes.told);
+        calls = unasked (AskedFrom rules s.filter) (Err e) (Err (Write e)) (omega arith) tt p;
         flushes = inl p.passes.wrote.flushes;
         quiet = λ drops sent. p.passes.wrote.flushes;
         more = tt;
         received = longer p.passes.wrote.writes;
-        ready = p.passes.ready;
         answers = (
           none_first rules lawful s.filter m.filter p.passes.answers.0 p.passes.answers.1 p.passes.answers.2,
           elim p.passes.wrote.ended [
@@ -201,42 +204,24 @@ module _ {T W : Type 0} (rules : FilterRules T W) where
 
       none_passed : (Such : Ask T → Type 0) → LinkPasses rules s (Ok false) m → SoFar rules Such 0 s m
       none_passed Such p = record {
-        goes = unasked Such (Ok false) p;
-        not_given_up = All-nil (λ turn. ¬ (EndsInterrupted rules turn));
-        once = unasked_once (Ok false) p;
-        reads = FewReadFaults-none (rules.read s.filter) (rules.read m.filter) p.passes.told;
-        per_ask = omega (arith, p.passes.wrote.flushes, ap (λ l. l.reads.asks) p.passes.told);
+        calls = unasked Such (Ok false) (Ok true) (omega arith) (All-nil (λ turn. ¬ (EndsInterrupted rules turn))) p;
         still = StaysOpen-none rules s.filter m.filter p.passes.told;
         forwarded = none_forwarded rules lawful s.filter m.filter p.passes.answers.0;
         met = met_writes s.filter m.filter p.passes.told p.passes.wrote.ended;
-        ready = p.passes.ready;
       }
 
       pub then_asked : LinkPasses rules s (Ok false) m → (answer : Result Bool (Cause W)) (t : Linked T)
           → ForwardsNext rules m answer t → ForwardsNext rules s answer t
       then_asked p answer t next =
-          let Such = AskedFrom rules s.filter in
-          let before = none_passed Such p in
-          let so = asked_after s.filter m.filter p.passes.answers.0 before.once before.still in
-          let less = lawful.taken_on s.filter m.filter [] p.passes.answers.0.takes in
-          record {
-            goes = goes_on Such 0 s m t before so answer next;
-            not_given_up = not_given_up_on Such 0 s m t before so answer next;
-            once = once_on Such 0 s m t before so answer next;
-            reads = reads_on Such 0 s m t before so answer next;
-            per_ask = per_ask_on Such 0 s m t before so answer next;
-            flushes = elim next.flushes [
-              | inl same ↦ inl (same ∙ p.passes.wrote.flushes)
-              | inr one ↦ inr (omega (arith, one.0, p.passes.wrote.flushes), omega (arith, one.1, less))
-            ];
-            quiet = λ drops sent. next.quiet drops (p.passes.answers.3 drops sent) ∙ p.passes.wrote.flushes;
-            more = more_after s.filter m.filter t.filter less
-                (λ drops quiet. inl (quiet.0 ∙ p.passes.wrote.flushes, λ sent. quiet.1 (p.passes.answers.3 drops sent))) answer
-                next.more;
-            received = omega (arith, longer p.passes.wrote.writes, next.received);
-            ready = next.ready;
-            answers = answers_on Such 0 s m t before so answer next;
-          }
+          let moves = p.passes.answers.0 in
+          let same = p.passes.wrote.flushes in
+          goes_next s m (none_passed (AskedFrom rules s.filter) p) moves (longer p.passes.wrote.writes) t answer next
+          (elim next.flushes [
+            | inl none ↦ inl (none ∙ same)
+            | inr one ↦ inr (omega (arith, one.0, same), omega (arith, one.1, lawful.taken_on s.filter m.filter [] moves.takes))
+          ])
+          (λ drops sent. next.quiet drops (p.passes.answers.3 drops sent) ∙ same)
+          (λ drops quiet. inl (quiet.0 ∙ same, λ sent. quiet.1 (p.passes.answers.3 drops sent)))
 
       flush_unasked : (answer : Result (Unit {0}) Error) → LinkFlushes rules s answer m → NotAsked rules s.filter m.filter
       flush_unasked answer p = record { told = p.flushes.told; writes = p.flushes.wrote.writes }
@@ -247,21 +232,23 @@ module _ {T W : Type 0} (rules : FilterRules T W) where
       pub not_flushed : rules.lacks s.filter → (e : Error) → LinkFlushes rules s (Err e) m
           → ForwardsNext rules s (Err (Write e)) m
       not_flushed lacks e p = record {
-        goes = Goes-unasked rules (AskedFrom rules s.filter) 1 s m (flush_unasked (Err e) p) p.noted
-            (once_more s.filter m.filter p.flushes.wrote.flushes) p.flushes.wrote.few;
-        not_given_up = tt;
-        once = flush_once (Err e) p;
-        reads = omega (arith, FewReadFaults-none (rules.read s.filter) (rules.read m.filter) p.flushes.told);
-        per_ask = omega (
-          arith,
-          once_more s.filter m.filter p.flushes.wrote.flushes,
-          ap (λ l. l.reads.asks) p.flushes.told,
-        );
+        calls = record {
+          goes = Goes-unasked rules (AskedFrom rules s.filter) 1 s m (flush_unasked (Err e) p) p.noted
+              (once_more s.filter m.filter p.flushes.wrote.flushes) p.flushes.wrote.few;
+          not_given_up = tt;
+          once = flush_once (Err e) p;
+          reads = omega (arith, FewReadFaults-none (rules.read s.filter) (rules.read m.filter) p.flushes.told);
+          per_ask = omega (
+            arith,
+            once_more s.filter m.filter p.flushes.wrote.flushes,
+            ap (λ l. l.reads.asks) p.flushes.told,
+          );
+          ready = p.flushes.ready;
+        };
         flushes = p.flushes.wrote.flushes;
         quiet = p.flushes.quiet;
         more = tt;
         received = longer p.flushes.wrote.writes;
-        ready = p.flushes.ready;
         answers = (
           none_first rules lawful s.filter m.filter [] p.flushes.moves (omega arith),
           inl (record {
@@ -288,21 +275,24 @@ module _ {T W : Type 0} (rules : FilterRules T W) where
           (once_more s.filter m.filter p.flushes.wrote.flushes) p.flushes.wrote.few turn.told turn.asks turn.noted turn.along
           turn.turn turn.each)
 
-      once : AsksOnce rules s.filter t.filter
-      once = AsksOnce-joins rules s.filter m.filter t.filter (flush_once s m (Ok tt) p)
-          (StaysOpen-none rules s.filter m.filter p.flushes.told) turn.once
-
-      reads : ReadsFew rules answer s.filter t.filter
-      reads = omega (arith, FewReadFaults-none (rules.read s.filter) (rules.read m.filter) p.flushes.told, turn.reads)
-
-      per_ask : FlushesPerAsk rules answer s.filter t.filter
-      per_ask = omega (
-        arith,
-        once_more s.filter m.filter p.flushes.wrote.flushes,
-        ap (λ w. w.log.writes.flushes) turn.told,
-        ap (λ l. l.reads.asks) p.flushes.told,
-        turn.asked,
-      )
+      calls : (next : Result Bool (Cause W)) → without_payload rules next ≡ without_payload rules answer
+          → OnTrue rules next (NoneGaveUp rules (turn.asks ∷ [])) → CallsUpTo rules (AskedFrom rules s.filter) s next t
+      calls next same not_given_up = record {
+        goes = goes (option_map_or flushed_last (result_err next) 0);
+        not_given_up = not_given_up;
+        once = AsksOnce-joins rules s.filter m.filter t.filter (flush_once s m (Ok tt) p)
+            (StaysOpen-none rules s.filter m.filter p.flushes.told) turn.once;
+        reads = omega (arith, FewReadFaults-none (rules.read s.filter) (rules.read m.filter) p.flushes.told, turn.reads, same);
+        per_ask = omega (
+          arith,
+          once_more s.filter m.filter p.flushes.wrote.flushes,
+          ap (λ w. w.log.writes.flushes) turn.told,
+          ap (λ l. l.reads.asks) p.flushes.told,
+          turn.asked,
+          same,
+        );
+        ready = turn.ready;
+      }
 
       wrote : MetInterrupts (rules.target s.filter).log.writes (rules.target t.filter).log.writes
       wrote = subst (λ w. MetInterrupts (rules.target s.filter).log.writes w.log.writes) (sym turn.told) p.flushes.wrote.ended
@@ -323,58 +313,49 @@ module _ {T W : Type 0} (rules : FilterRules T W) where
           → (rules.target t.filter).log.writes.flushes ≡ (rules.target s.filter).log.writes.flushes
       quiet drops sent = ap (λ w. w.log.writes.flushes) turn.told ∙ p.flushes.quiet drops sent
 
-      ended : (next : Result Bool (Cause W))
-          → ReadsFew rules next s.filter t.filter → FlushesPerAsk rules next s.filter t.filter
+      ended : (next : Result Bool (Cause W)) → without_payload rules next ≡ without_payload rules answer
           → OnTrue rules next (NoneGaveUp rules (turn.asks ∷ [])) → OnTrue rules next (GoesAhead rules s.filter t.filter)
           → StepAnswers rules 0 s.filter next t.filter → ForwardsNext rules s next t
-      ended next reads per_ask not_given_up more answers = record {
-        goes = goes (option_map_or flushed_last (result_err next) 0);
-        not_given_up = not_given_up;
-        once = once;
-        reads = reads;
-        per_ask = per_ask;
+      ended next same not_given_up more answers = record {
+        calls = calls next same not_given_up;
         flushes = flushes;
         quiet = quiet;
         more = more;
         received = received;
-        ready = turn.ready;
         answers = answers;
       }
 
     module _ (s m t : Linked T) (p : LinkFlushes rules s (Ok tt) m) where
       pub no_more : TakesTurn rules m (Ok false) t → ForwardsNext rules s (Ok false) t
-      no_more turn = ended s m t p (Ok false) turn (Ok false) (reads s m t p (Ok false) turn)
-          (per_ask s m t p (Ok false) turn) tt tt (
-            none_forwarded rules lawful s.filter t.filter (moves s m t p (Ok false) turn),
-            lawful.ends_after s.filter m.filter t.filter [] (Ok tt) p.flushes.moves.hands
-                (StaysOpen-none rules s.filter m.filter p.flushes.told) turn.answers.0,
-            turn.sent,
-            met s m t p (Ok false) turn turn.answers.1,
-          )
+      no_more turn = ended s m t p (Ok false) turn (Ok false) refl tt tt (
+        none_forwarded rules lawful s.filter t.filter (moves s m t p (Ok false) turn),
+        lawful.ends_after s.filter m.filter t.filter [] (Ok tt) p.flushes.moves.hands
+            (StaysOpen-none rules s.filter m.filter p.flushes.told) turn.answers.0,
+        turn.sent,
+        met s m t p (Ok false) turn turn.answers.1,
+      )
 
       pub wrong_next : (why : W) → TakesTurn rules m (Err (asked.Wrong why)) t → ForwardsNext rules s (Err (Wrong why)) t
-      wrong_next why turn = ended s m t p (Err (asked.Wrong why)) turn (Err (Wrong why))
-          (reads s m t p (Err (asked.Wrong why)) turn) (per_ask s m t p (Err (asked.Wrong why)) turn) tt tt (
-            none_forwarded rules lawful s.filter t.filter (moves s m t p (Err (asked.Wrong why)) turn),
-            lawful.ends_after s.filter m.filter t.filter [] (Err why) p.flushes.moves.hands
-                (StaysOpen-none rules s.filter m.filter p.flushes.told) turn.answers.0,
-            turn.sent,
-            met s m t p (Err (asked.Wrong why)) turn turn.answers.1,
-          )
+      wrong_next why turn = ended s m t p (Err (asked.Wrong why)) turn (Err (Wrong why)) refl tt tt (
+        none_forwarded rules lawful s.filter t.filter (moves s m t p (Err (asked.Wrong why)) turn),
+        lawful.ends_after s.filter m.filter t.filter [] (Err why) p.flushes.moves.hands
+            (StaysOpen-none rules s.filter m.filter p.flushes.told) turn.answers.0,
+        turn.sent,
+        met s m t p (Err (asked.Wrong why)) turn turn.answers.1,
+      )
 
       not_read : (why : AskError W) (e : Error) → TakesTurn rules m (Err why) t → GivesUp rules m.filter e t.filter
           → ForwardsNext rules s (Err (Read e)) t
-      not_read why e turn up = ended s m t p (Err why) turn (Err (Read e)) (reads s m t p (Err why) turn)
-          (per_ask s m t p (Err why) turn) tt tt (
-            none_forwarded rules lawful s.filter t.filter (moves s m t p (Err why) turn),
-            up.0,
-            turn.sent,
-            lawful.waits_fresh t.filter up.0 turn.sent,
-            record {
-              reader = subst (λ l. ReadGaveUp e l.reads.faults (rules.read t.filter).reads.faults) p.flushes.told up.1;
-              writer = wrote s m t p (Err why) turn;
-            },
-          )
+      not_read why e turn up = ended s m t p (Err why) turn (Err (Read e)) refl tt tt (
+        none_forwarded rules lawful s.filter t.filter (moves s m t p (Err why) turn),
+        up.0,
+        turn.sent,
+        lawful.waits_fresh t.filter up.0 turn.sent,
+        record {
+          reader = subst (λ l. ReadGaveUp e l.reads.faults (rules.read t.filter).reads.faults) p.flushes.told up.1;
+          writer = wrote s m t p (Err why) turn;
+        },
+      )
 
       pub none_read : (e : Error) → TakesTurn rules m (Err (asked.Io e)) t → ForwardsNext rules s (Err (Read e)) t
       none_read e turn = not_read (asked.Io e) e turn turn.answers
@@ -386,43 +367,25 @@ module _ {T W : Type 0} (rules : FilterRules T W) where
       module _ (turn : TakesTurn rules m (Ok true) t) where
         came : SoFar rules (AskedFrom rules s.filter) 0 s t
         came = record {
-          goes = goes s m t p (Ok true) turn 0;
-          not_given_up = All-cons (λ turn. ¬ (EndsInterrupted rules turn)) turn.asks [] turn.not_given_up
-              (All-nil (λ turn. ¬ (EndsInterrupted rules turn)));
-          once = once s m t p (Ok true) turn;
-          reads = reads s m t p (Ok true) turn;
-          per_ask = per_ask s m t p (Ok true) turn;
+          calls = calls s m t p (Ok true) turn (Ok true) refl
+              (All-cons (λ turn. ¬ (EndsInterrupted rules turn)) turn.asks [] turn.not_given_up
+              (All-nil (λ turn. ¬ (EndsInterrupted rules turn))));
           still = StaysOpen-joins rules s.filter m.filter t.filter (StaysOpen-none rules s.filter m.filter p.flushes.told)
               turn.once turn.answers.2;
           forwarded = none_forwarded rules lawful s.filter t.filter (moves s m t p (Ok true) turn);
           met = met s m t p (Ok true) turn turn.answers.1;
-          ready = turn.ready;
         }
 
         then_moved : (u : Linked T) (answer : Result Bool (Cause W)) → ForwardsNext rules t answer u
             → (rules.target u.filter).log.writes.flushes ≡ (rules.target t.filter).log.writes.flushes
             → ForwardsNext rules s answer u
         then_moved u answer next unflushed =
-            let Such = AskedFrom rules s.filter in
-            let so = asked_after s.filter t.filter (moves s m t p (Ok true) turn) came.once came.still in
-            record {
-              goes = goes_on Such 0 s t u came so answer next;
-              not_given_up = not_given_up_on Such 0 s t u came so answer next;
-              once = once_on Such 0 s t u came so answer next;
-              reads = reads_on Such 0 s t u came so answer next;
-              per_ask = per_ask_on Such 0 s t u came so answer next;
-              flushes = elim (flushes s m t p (Ok true) turn) [
-                | inl same ↦ inl (unflushed ∙ same)
-                | inr one ↦ inr (unflushed ∙ one.0, omega (arith, one.1, next.received))
-              ];
-              quiet = λ drops sent. unflushed ∙ quiet s m t p (Ok true) turn drops sent;
-              more = more_after s.filter t.filter u.filter
-                  (lawful.taken_on s.filter t.filter [] (moves s m t p (Ok true) turn).takes)
-                  (λ drops still. inr (still.1 turn.sent)) answer next.more;
-              received = omega (arith, received s m t p (Ok true) turn, next.received);
-              ready = next.ready;
-              answers = answers_on Such 0 s t u came so answer next;
-            }
+            goes_next s t came (moves s m t p (Ok true) turn) (received s m t p (Ok true) turn) u answer next
+            (elim (flushes s m t p (Ok true) turn) [
+              | inl same ↦ inl (unflushed ∙ same)
+              | inr one ↦ inr (unflushed ∙ one.0, omega (arith, one.1, next.received))
+            ])
+            (λ drops sent. unflushed ∙ quiet s m t p (Ok true) turn drops sent) (λ drops still. inr (still.1 turn.sent))
 
         pub came_passed : (u : Linked T) (moved : Bool) → LinkPasses rules t (Ok moved) u → ForwardsNext rules s (Ok moved) u
         came_passed u true q = then_moved u (Ok true) (passed t u q) q.passes.wrote.flushes

@@ -100,17 +100,21 @@ module _ {T W : Type 0} (rules : FilterRules T W) where
   GoesAhead s t =
       (bytes_taken (rules.target s) < bytes_taken (rules.target t)) ⊎ (rules.drops × (IsQuiet s t ⊎ rules.sent t))
 
-  -- what is done for one payload
-  pub record ForwardsNext (s : Linked T) (answer : Result Bool (Cause W)) (t : Linked T) : Type 0 where
-    pub goes : Goes rules (AskedFrom s.filter) (option_map_or flushed_last (result_err answer) 0) s t
+  -- how the streams were called up to this answer, by asks of this kind
+  pub record CallsUpTo (Such : Ask T → Type 0) (s : Linked T) (answer : Result Bool (Cause W)) (t : Linked T) : Type 0 where
+    pub goes : Goes rules Such (option_map_or flushed_last (result_err answer) 0) s t
+    pub not_given_up : OnTrue answer (NoneGaveUp rules goes.turns.turns)
     pub once : AsksOnce rules s.filter t.filter
     pub reads : ReadsFew answer s.filter t.filter
     pub per_ask : FlushesPerAsk answer s.filter t.filter
+    pub ready : rules.ready t.filter
+
+  -- what is done for one payload
+  pub record ForwardsNext (s : Linked T) (answer : Result Bool (Cause W)) (t : Linked T) : Type 0 where
+    pub calls : CallsUpTo (AskedFrom s.filter) s answer t
     pub flushes : FlushesOnce (rules.target s.filter) (rules.target t.filter)
     pub quiet : rules.drops → rules.sent s.filter
         → (rules.target t.filter).log.writes.flushes ≡ (rules.target s.filter).log.writes.flushes
-    pub not_given_up : OnTrue answer (NoneGaveUp rules goes.turns.turns)
     pub more : OnTrue answer (GoesAhead s.filter t.filter)
     pub received : length (rules.target s.filter).log.writes.received ≤ length (rules.target t.filter).log.writes.received
-    pub ready : rules.ready t.filter
     pub answers : StepAnswers 0 s.filter answer t.filter
