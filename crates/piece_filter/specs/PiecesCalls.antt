@@ -1,7 +1,6 @@
 -- What the calls of a filter of pieces do.
-use Rattle.std.proofs.Common.{◌≡◌, ℕ, ◌+◌, ◌≤◌, ◌<◌, ◌⊎◌, inl, inr, Bool, true, false, List, [], ◌∷◌, ◌++◌, length, Option, None, Some, Result, Ok, Err, refl, sym, ap, subst, ◌∙◌, arith, append-nil, length-append, length-drop, OnErr, OnOk}
-use Rattle.std.proofs.lemmas.Bool.{cases_lt, true≢false}
-use Rattle.std.proofs.lemmas.List.{nil_from_length}
+use Rattle.std.proofs.Common.{◌≡◌, ℕ, ◌+◌, ◌≤◌, ◌<◌, ◌⊎◌, inl, inr, Bool, true, false, List, [], ◌∷◌, ◌++◌, length, Option, None, Some, Result, Ok, Err, refl, sym, ap, subst, ◌∙◌, arith, length-drop, OnErr, OnOk}
+use Rattle.std.proofs.lemmas.Bool.{true≢false}
 use Rattle.std.specs.declared.io.Error.{Error}
 use Rattle.buffer_redux.specs.BufWriter.{WasFlushed, WritesInOrder}
 use Rattle.buffer_redux.specs.LogGrows.{ReadLogGrows-none}
@@ -25,7 +24,7 @@ use Rattle.programs.specs.Streams.{AllSent}
 use Rattle.programs.specs.TakenIn.{TakesAll, taken_more, target_of}
 use Rattle.programs.specs.TargetLaws.{TakesAll-not_passed, TakesAll-passed, WasFlushed-sent, WasFlushed-writes, nothing_passed}
 use Rattle.piece_filter.specs.Pieces.{CanShow, HandsPieces, HasEnded, IsReady, Keeps, Piecewise, TakesReplies, grammar_of, held_at, held_of, piece_rules}
-use Rattle.piece_filter.specs.PiecesLaws.{answers_one, gave_but_failed, hands_nothing, hands_one, none_held, offered_at_end, offered_at_fault, open_piece, still_seen, takes_none, takes_nothing}
+use Rattle.piece_filter.specs.PiecesLaws.{answers_one, counted, gave_but_failed, given_more, hands_nothing, hands_one, more_came, none_held, offered_at_end, offered_at_fault, open_piece, still_seen, takes_none, takes_nothing}
 
 -- there is no place
 pub not_held : (h : Option Span) → ((span : Span) → ¬ (h ≡ Some span)) → h ≡ None
@@ -90,38 +89,31 @@ module _ {T R D X A W E : Type 0} (remaining : R → Option (List ℕ)) (f : Pie
     also = also;
   }
 
-  open_behind : (payload : List ℕ) → NextGives (Ok (Some payload)) → (f.source s).ended ≡ false
-  open_behind payload next = open_piece (Ok None) (f.source s).ended payload refl next.told
-
-  -- the next was taken out that was buffered
-  pub took_next : f.held s ≡ None → f.held t ≡ None → f.also t → (payload : List ℕ) → NextGives (Ok (Some payload))
-      → (f.source t).reader ≡ (f.source s).reader → Took (payload ∷ [])
-  took_next lacks none also payload next same =
-      let going = open_behind payload next in
+  -- the next that was buffered was taken out, or is held
+  took_buffered : f.held s ≡ None → (p : List (List ℕ)) (payload : List ℕ) → payload ∷ [] ≡ p ++ held_of f t
+      → CanShow (grammar_of f t) (f.source t) (f.held t) → f.also t → NextGives (Ok (Some payload))
+      → (f.source t).reader ≡ (f.source s).reader → Took p
+  took_buffered lacks p payload order shows also next same =
+      let going = open_piece (Ok None) (f.source s).ended payload refl next.told in
       record {
-        hands = hands_one remaining f s t payload (payload ∷ []) going next
-            (ap (λ l. l ++ payload ∷ []) (none_held remaining f s lacks)
-            ∙ ap (λ l. payload ∷ l) (sym (none_held remaining f t none)));
+        hands = hands_one remaining f s t payload p going next
+            (ap (λ l. l ++ payload ∷ []) (none_held remaining f s lacks) ∙ order);
         told = ap (λ r. r.log) same;
         closed = λ ended. absurd (true≢false (sym ended ∙ going));
-        leaves = ready_then (Ok (Some payload)) next (none_shown none) also;
+        leaves = ready_then (Ok (Some payload)) next shows also;
       }
 
-  -- the next one that was buffered is held
+  pub took_next : f.held s ≡ None → f.held t ≡ None → f.also t → (payload : List ℕ) → NextGives (Ok (Some payload))
+      → (f.source t).reader ≡ (f.source s).reader → Took (payload ∷ [])
+  took_next lacks none also payload = took_buffered lacks (payload ∷ []) payload
+      (ap (λ l. payload ∷ l) (sym (none_held remaining f t none))) (none_shown none) also
+
   pub took_hold : f.held s ≡ None → (span : Span) → f.held t ≡ Some span → f.also t
       → IsLent (grammar_of f t) (f.source t).handed (f.source t).reader.block.bytes span
       → NextGives (Ok (Some (bytes_at span (f.source t).reader.block.bytes))) → (f.source t).reader ≡ (f.source s).reader
       → Took []
-  took_hold lacks span is also lent next same =
-      let payload = bytes_at span (f.source t).reader.block.bytes in
-      let going = open_behind payload next in
-      record {
-        hands = hands_one remaining f s t payload [] going next
-            (ap (λ l. l ++ payload ∷ []) (none_held remaining f s lacks) ∙ ap (λ h. held_at (f.source t) h) (sym is));
-        told = ap (λ r. r.log) same;
-        closed = λ ended. absurd (true≢false (sym ended ∙ going));
-        leaves = ready_then (Ok (Some payload)) next (subst (CanShow (grammar_of f t) (f.source t)) (sym is) lent) also;
-      }
+  took_hold lacks span is also lent = took_buffered lacks [] (bytes_at span (f.source t).reader.block.bytes)
+      (ap (λ h. held_at (f.source t) h) (sym is)) (subst (CanShow (grammar_of f t) (f.source t)) (sym is) lent) also
 
   -- a payload was answered by these bytes; or it was dropped; or that failed
   passed : (payload reply : List ℕ) → Took (payload ∷ []) → f.answers (f.service s) payload reply (f.service t)
@@ -256,11 +248,6 @@ module _ {T R D X A W E : Type 0} (remaining : R → Option (List ℕ)) (f : Pie
         answers = answers;
       }
 
-      given_more : (answer : NextAnswer X) (next : NextGives answer)
-          → length (f.source t).reader.log.reads.given ≡ length (f.source s).reader.log.reads.given + length next.went.hands.got
-      given_more answer next = ap length next.went.hands.given
-          ∙ length-append (f.source s).reader.log.reads.given next.went.hands.got
-
       some_came : (answer : NextAnswer X) → NextGives answer → came (rules.read s).reads < came (rules.read t).reads
           → SomeCame rules s t
       some_came answer next more = record {
@@ -270,31 +257,6 @@ module _ {T R D X A W E : Type 0} (remaining : R → Option (List ℕ)) (f : Pie
         ];
         more = more;
       }
-
-      -- what wasn't buffered came, or the end did
-      more_came : ¬ (Begins (grammar_of f s) (rest (f.source s))) → (payload : List ℕ) → NextGives (Ok (Some payload))
-          → SomeCame rules s t
-      more_came no_piece payload next =
-          let left = rest (f.source s) in
-          some_came (Ok (Some payload)) next (elim next.answers.1 [
-            | inl whole ↦ elim (cases_lt 0 (length next.went.hands.got)) [
-              | inl some ↦ omega (arith, some, given_more (Ok (Some payload)) next, whole.2)
-              | inr none ↦ absurd (no_piece (record {
-                piece = next.bytes;
-                payload = payload;
-                more = rest (f.source t);
-                is = whole.0;
-                equal = sym (append-nil left)
-                    ∙ ap (λ l. left ++ l) (sym (nil_from_length next.went.hands.got (omega (arith, none))))
-                    ∙ sym next.went.hands.equal;
-              }))
-            ]
-            | inr last ↦ omega (
-              arith,
-              MetEnd-once (f.source s) (f.source t) going last.5,
-              given_more (Ok (Some payload)) next,
-            )
-          ])
 
       -- a payload came, and is held
       pub asked_more : (span : Span) → f.held t ≡ Some span
@@ -320,7 +282,7 @@ module _ {T R D X A W E : Type 0} (remaining : R → Option (List ℕ)) (f : Pie
               })
               | inr last ↦ inr last.4
             ],
-            more_came no_piece payload next,
+            some_came (Ok (Some payload)) next (more_came going no_piece payload next),
           )
 
       -- no payload came
@@ -343,11 +305,9 @@ module _ {T R D X A W E : Type 0} (remaining : R → Option (List ℕ)) (f : Pie
               arith,
               ready.whole.handed,
               length-drop (f.source s).handed (f.source s).reader.block.bytes,
-              ap length next.went.hands.equal,
+              counted next,
               ap length a.0,
               ap length a.1,
-              length-append (rest (f.source s)) next.went.hands.got,
-              length-append next.bytes (rest (f.source t)),
             )) (Ok false) tt
             ((none, (a.1, inr (omega (arith, met)), omega (arith, met), inr (offered_at_end next going))), a.2)
 
@@ -379,15 +339,7 @@ module _ {T R D X A W E : Type 0} (remaining : R → Option (List ℕ)) (f : Pie
           most = ap (λ d. (f.grammar d).most) next.went.decoder
 
           grew : length (rest (f.source s)) ≤ length (rest (f.source t))
-          grew =
-              let hands = next.went.hands in
-              omega (
-                arith,
-                ap length next.answers.0,
-                ap length hands.equal,
-                length-append next.bytes (rest (f.source t)),
-                length-append (rest (f.source s)) hands.got,
-              )
+          grew = omega (arith, ap length next.answers.0, counted next)
 
           pub asked_idle : length (rest (f.source t)) ≤ length (rest (f.source s)) → FilterAsks rules s (Err (Io e)) t
           asked_idle idle = failed (Err (Io e)) (still_seen next.looked)
@@ -406,11 +358,9 @@ module _ {T R D X A W E : Type 0} (remaining : R → Option (List ℕ)) (f : Pie
                   arith,
                   longer,
                   next.answers.4,
-                  given_more (Err (Why.Io e)) next,
+                  given_more next,
                   ap length next.answers.0,
-                  ap length next.went.hands.equal,
-                  length-append next.bytes (rest (f.source t)),
-                  length-append (rest (f.source s)) next.went.hands.got,
+                  counted next,
                 )),
               ))
 

@@ -1,6 +1,6 @@
 -- Payloads of pieces are handed out in order, and what is due is sent with what becomes of them.
-use Rattle.std.proofs.Common.{◌≡◌, ℕ, ◌≤◌, inl, inr, List, [], ◌∷◌, ◌++◌, length, false, Option, None, Some, Result, Ok, Err, refl, sym, ap, subst, ◌∙◌, arith, append-nil, append_assoc, length-append, flat_map, Bool, true}
-use Rattle.std.proofs.lemmas.Bool.{true≢false}
+use Rattle.std.proofs.Common.{◌≡◌, ℕ, ◌+◌, ◌<◌, ◌≤◌, inl, inr, List, [], ◌∷◌, ◌++◌, length, false, Option, None, Some, Result, Ok, Err, refl, sym, ap, subst, ◌∙◌, arith, append-nil, append_assoc, length-append, flat_map, Bool, true}
+use Rattle.std.proofs.lemmas.Bool.{cases_lt, true≢false}
 use Rattle.std.proofs.lemmas.List.{nil_from_length}
 use Rattle.std.specs.declared.io.Error.{Error}
 use Rattle.buffer_redux.specs.Asking.{AskedOver}
@@ -8,7 +8,7 @@ use Rattle.buffer_redux.specs.BufWriter.{WritesInOrder}
 use Rattle.buffer_redux.specs.LogGrows.{ReadLogGrows}
 use Rattle.buffer_redux.specs.Unbuffer.{HandsOutInOrder, Unbuffered}
 use Rattle.buffer_redux.specs.WriterLaws.{WritesInOrder-joins, WritesInOrder-none}
-use Rattle.piece_reader.specs.Grammar.{Grammar, IsOpen}
+use Rattle.piece_reader.specs.Grammar.{Begins, Grammar, IsOpen}
 use Rattle.piece_reader.specs.NextPiece.{AskedUnlessEnded, Faulted, NextPiece, PiecesWent, NextAnswer, StaysLooked}
 use Rattle.piece_reader.specs.NextPieceLaws.{MetEnd-once}
 use Rattle.piece_reader.specs.PieceReader.{ReaderState, left_of, rest}
@@ -18,6 +18,7 @@ use Rattle.piece_reader.specs.Texts.{HasPieces, IsPieces, StartsWith}
 use Rattle.forward.specs.Filter.{AsksSent, FilterRules, IsLawful, Moves, StaysOpen}
 use Rattle.forward.specs.Prompt.{AskedLast, AsksGiveOrFail}
 use Rattle.forward.specs.PromptLaws.{AskedLast-after}
+use Rattle.forward.specs.Streams.{came}
 use Rattle.programs.specs.TakenIn.{sent_all, taken_more}
 use Rattle.piece_filter.specs.Pieces.{AnswersAll, HandsPieces, IsCoherent, IsText, OfferedWhole, PiecesEnd, Piecewise, TakesReplies, grammar_of, held_at, held_of, piece_rules, StaysSeen}
 
@@ -34,26 +35,56 @@ pub open_piece : {X : Type 0} (none : NextAnswer X) (ended : Bool) (payload : Li
 open_piece none true payload is told = (let odd : Ok (Some payload) ≡ none = told refl in cc)
 open_piece none false payload is told = refl
 
--- an ask behind which nothing is left, and that handed nothing out, was for the whole buffer: at the end, and where one failed
 module _ {R D X : Type 0} {remaining : R → Option (List ℕ)} {g : Grammar X} {s t : ReaderState R D} where
+  -- as many went and are left as were left and came
+  pub counted : {found : NextAnswer X} (next : NextPiece remaining g s found t)
+      → length next.bytes + length (rest t) ≡ length (rest s) + length next.went.hands.got
+  counted next = omega (
+    arith,
+    ap length next.went.hands.equal,
+    length-append next.bytes (rest t),
+    length-append (rest s) next.went.hands.got,
+  )
+
+  pub given_more : {found : NextAnswer X} (next : NextPiece remaining g s found t)
+      → length t.reader.log.reads.given ≡ length s.reader.log.reads.given + length next.went.hands.got
+  given_more next =
+      ap length next.went.hands.given ∙ length-append s.reader.log.reads.given next.went.hands.got
+
+  -- where no piece was buffered, bytes came, or the end did
+  pub more_came : s.ended ≡ false → ¬ (Begins g (rest s)) → (payload : List ℕ)
+      → NextPiece remaining g s (Ok (Some payload)) t → came s.reader.log.reads < came t.reader.log.reads
+  more_came going no_piece payload next = elim next.answers.1 [
+    | inl whole ↦ elim (cases_lt 0 (length next.went.hands.got)) [
+      | inl some ↦ omega (arith, some, given_more next, whole.2)
+      | inr none ↦ absurd (no_piece (record {
+        piece = next.bytes;
+        payload = payload;
+        more = rest t;
+        is = whole.0;
+        equal = sym (append-nil (rest s))
+            ∙ ap (λ l. rest s ++ l) (sym (nil_from_length next.went.hands.got (omega (arith, none))))
+            ∙ sym next.went.hands.equal;
+      }))
+    ]
+    | inr last ↦ omega (arith, MetEnd-once s t going last.5, given_more next)
+  ]
+
+  -- an ask behind which nothing is left, and that handed nothing out, was for the whole buffer: at the end, and where one failed
   offered_whole : (found : NextAnswer X) (next : NextPiece remaining g s found t) → next.bytes ≡ [] → rest t ≡ []
       → ¬ (t.reader.log ≡ s.reader.log) → OfferedWhole t
   offered_whole found next none empty asked = elim next.offered [
     | inl same ↦ absurd (asked same)
     | inr over ↦
         let given = s.reader.log.reads.given in
-        let hands = next.went.hands in
         over.such.1 (nil_from_length (rest s ++ over.came) (omega (
           arith,
           ap length none,
           ap length empty,
-          ap length hands.equal,
-          ap length hands.given,
           ap length over.given,
-          length-append next.bytes (rest t),
-          length-append (rest s) hands.got,
+          counted next,
+          given_more next,
           length-append (rest s) over.came,
-          length-append given hands.got,
           length-append given (over.came ++ t.reader.log.reads.latest),
           length-append over.came t.reader.log.reads.latest,
         ))) ∙ sym next.went.capacity
