@@ -74,8 +74,8 @@ module _ {T W : Type 0} (rules : FilterRules T W) (lawful : IsLawful rules) wher
           let went = before.so_far.forwarded in
           lawful.asks_sent first.filter ask.before ask.after went.payloads fresh
           (Moves-on rules lawful first.filter s.filter ask.before went.payloads went.payloads went.moves asked.moves)
-          (StaysOpen-joins rules first.filter s.filter ask.before before.so_far.still asked.once asked.still) asked.lacks asked.sent
-          asked.asks
+          (StaysOpen-joins rules first.filter s.filter ask.before before.so_far.still asked.once asked.still) asked.lacks
+          asked.sent asked.asks
 
       module _ (answer : Result Bool (Cause W)) (next : ForwardsNext rules s answer t) where
         all_calls : CallsUpTo rules Prompt first answer t
