@@ -1,11 +1,10 @@
 //! Payloads that are collected, and bodies one after another.
 use body_reader::{BodyReader, Coding, JustOrUntil, Sized, Until};
-use buffer_redux::BufReader;
 use redux_script::Answer;
 use std::alloc::{AllocError, Global};
 use std::io;
 use std::test::Fail;
-use tests_common::{Log, Source, holding, reader, source};
+use tests_common::{Log, Source, holding, source};
 
 const HELLO: &[u8] = b"hello, world";
 
@@ -22,10 +21,16 @@ static COLLECTED: [(&[u8], usize, &'static [u8]); 5] = [
     (b"hel", 6, NONE),
 ];
 
-// A body of five bytes, through eight.
-fn of_five(alloc: Global, bytes: &[u8]) -> io::Result<BodyReader<Source, Sized>> {
-    let stream = source(alloc, bytes, &[Answer::Serve(3), Answer::Serve(8)])?;
-    Ok(BodyReader::with_buffer(holding(alloc, 8, b"")?, stream, Sized(5))?)
+// A body of a stream that gives these bytes, through so many.
+fn body<C: Coding + Drop>(
+    alloc: Global,
+    capacity: usize,
+    bytes: &[u8],
+    script: &[Answer],
+    coding: C,
+) -> io::Result<BodyReader<Source, C>> {
+    let stream = source(alloc, bytes, script)?;
+    Ok(BodyReader::with_buffer(holding(alloc, capacity, b"")?, stream, coding)?)
 }
 
 // Notes what a call leaves in the vector.
@@ -45,14 +50,25 @@ fn note_collected(
     log.note(b"|");
 }
 
-fn is_collected(alloc: Global, bytes: &[u8], most: usize, wants: &[u8]) -> io::Result<bool> {
-    let (mut log, mut out) = (Log::new(alloc), Vec::from_slice(alloc, b">")?);
-    let mut body = of_five(alloc, bytes)?;
+// What becomes of a vector that holds one byte.
+fn collected(
+    alloc: Global,
+    body: &mut BodyReader<Source, Sized>,
+    most: usize,
+) -> Result<Log, AllocError> {
+    let mut out = Vec::from_slice(alloc, b">")?;
+    let mut log = Log::new(alloc);
     for most in [most, 6, 0] {
-        note_collected(&mut body, most, &mut out, &mut log);
+        note_collected(body, most, &mut out, &mut log);
     }
     log.note(body.get_ref().buffer());
-    Ok(log.is(wants))
+    Ok(log)
+}
+
+fn is_collected(alloc: Global, bytes: &[u8], most: usize, wants: &[u8]) -> io::Result<bool> {
+    let script = [Answer::Serve(3), Answer::Serve(8)];
+    let mut body = body(alloc, 8, bytes, &script, Sized(5))?;
+    Ok(collected(alloc, &mut body, most)?.is(wants))
 }
 
 #[test]
@@ -93,30 +109,28 @@ fn turn(body: &mut BodyReader<Source, JustOrUntil>, other: &mut JustOrUntil) {
 }
 
 // Notes two texts, drops a third, and notes what is behind.
-fn note_texts(mut body: BodyReader<Source, JustOrUntil>, other: &mut JustOrUntil, log: &mut Log) {
-    note_text(&mut body, log);
-    turn(&mut body, other);
-    note_text(&mut body, log);
-    turn(&mut body, other);
+fn note_texts(body: &mut BodyReader<Source, JustOrUntil>, other: &mut JustOrUntil, log: &mut Log) {
+    for _ in 0..2 {
+        note_text(body, log);
+        turn(body, other);
+    }
     if body.drain().is_ok() && body.is_done() {
-        log.note(body.into_inner_torn().buffer());
+        log.note(body.get_ref().buffer());
     }
 }
 
-fn note_mails(alloc: Global, inner: BufReader<Source>, log: &mut Log) -> Result<(), AllocError> {
+fn are_noted(alloc: Global, bytes: &[u8], wants: &[u8]) -> io::Result<bool> {
     let mut other = mails(alloc)?;
     let coding = mails(alloc)?;
-    if inner.capacity() >= coding.ahead() {
-        note_texts(BodyReader::new(inner, coding), &mut other, log);
-    }
-    Ok(())
+    let mut body = body(alloc, 64, bytes, &[], coding)?;
+    let mut log = Log::new(alloc);
+    note_texts(&mut body, &mut other, &mut log);
+    Ok(log.is(wants))
 }
 
 #[test]
 fn goes_from_body_to_body(rt: HostRuntime) -> Result<(), Fail> {
-    let mut log = Log::new(rt.alloc());
-    let stream = source(rt.alloc(), b"a\r\n..\r\n.\r\n.\r\nb\r\n.\r\nQUIT", &[])?;
-    note_mails(rt.alloc(), reader(rt.alloc(), 64, b"", stream)?, &mut log)?;
-    assert!(rt; log.is(b"|a\r\n..|||QUIT"));
+    let bytes = b"a\r\n..\r\n.\r\n.\r\nb\r\n.\r\nQUIT";
+    assert!(rt; are_noted(rt.alloc(), bytes, b"|a\r\n..|||QUIT")?);
     Ok(())
 }

@@ -1,8 +1,9 @@
 //! The examples of the pages.
+use crate::parts::{LIMITS, parts_of};
 use buffer_redux::BufReader;
 use buffer_redux::policy::{MinBuffered, ReaderPolicy};
 use buffer_redux::tell::TellRead;
-use multipart::{Limits, Multipart, field, parameter};
+use multipart::{Multipart, field, parameter};
 use redux_script::Answer;
 use std::alloc::Global;
 use std::io;
@@ -12,14 +13,8 @@ use tests_common::{Source, kind, reader, reader_under, source};
 
 // The text of the part of this name.
 fn text_of(alloc: Global, reader: BufReader<Source>, name: &[u8]) -> io::Result<Vec<u8>> {
-    let limits = Limits {
-        head: 4096,
-        parts: 100,
-    };
+    let mut parts = parts_of(alloc, reader, b"AaB03x", LIMITS)?;
     let mut text = Vec::new(alloc);
-    let Ok(mut parts) = Multipart::new(alloc, reader, b"AaB03x", limits) else {
-        return Err(io::Error::from(ErrorKind::InvalidInput));
-    };
     append_text(&mut parts, name, &mut text)?;
     Ok(text)
 }

@@ -11,19 +11,10 @@ use std::io::ErrorKind;
 use std::test::Fail;
 use tests_common::{Log, Source, asked, first, holding_in, reader, reader_under, source};
 
-const LIMITS: Limits = Limits {
+pub const LIMITS: Limits = Limits {
     head: 200,
     parts: 4,
 };
-
-// How a body is read: over which stream and buffer, and by slices or lent.
-#[derive(Clone, Copy)]
-struct Play<'a> {
-    script: &'a [Answer],
-    capacity: usize,
-    is_ring: bool,
-    lent: bool,
-}
 
 // One read of text.
 fn next<P: ReaderPolicy + Drop>(
@@ -87,13 +78,16 @@ fn note_parts<P: ReaderPolicy + Drop>(
 
 // Notes each part, and then `end`, or why there is no other.
 fn note_all<P: ReaderPolicy + Drop>(parts: &mut Multipart<Source, P>, lent: bool, log: &mut Log) {
-    match note_parts(parts, lent, log) {
-        Ok(()) => log.note(b"end"),
-        Err(why) => log.show(&why),
+    let noted = note_parts(parts, lent, log);
+    let is_end = parts.stand() == Stand::Ended;
+    match noted {
+        Ok(()) if is_end => log.note(b"end"),
+        Err(why) if !is_end => log.show(&why),
+        _ => log.note(b"it stands elsewhere"),
     }
 }
 
-fn parts_of<P: ReaderPolicy + Drop>(
+pub fn parts_of<P: ReaderPolicy + Drop>(
     alloc: Global,
     inner: BufReader<Source, P>,
     boundary: &[u8],
@@ -104,16 +98,51 @@ fn parts_of<P: ReaderPolicy + Drop>(
     ))
 }
 
-fn inner(alloc: Global, bytes: &[u8], play: Play<'_>) -> io::Result<BufReader<Source>> {
-    let stream = source(alloc, bytes, play.script)?;
-    Ok(BufReader::with_buffer(holding_in(alloc, play.is_ring, play.capacity, b"")?, stream))
+// What came of a body: its parts, and how often the stream was asked; the same again; and what is behind.
+#[derive(Drop)]
+struct Came {
+    parts: Log,
+    asks: usize,
+    again: Log,
+    behind: Log,
+}
+
+fn play<P: ReaderPolicy + Drop>(
+    alloc: Global,
+    inner: BufReader<Source, P>,
+    boundary: &[u8],
+    limits: Limits,
+    lent: bool,
+) -> io::Result<Came> {
+    let mut parts = parts_of(alloc, inner, boundary, limits)?;
+    let mut came = Came {
+        parts: Log::new(alloc),
+        asks: 0,
+        again: Log::new(alloc),
+        behind: Log::new(alloc),
+    };
+    note_all(&mut parts, lent, &mut came.parts);
+    came.asks = asked(parts.get_ref()).len();
+    note_all(&mut parts, lent, &mut came.again);
+    came.behind.note(parts.into_inner_torn().buffer());
+    Ok(came)
+}
+
+// A reader of these bytes over such a buffer, whose stream answers by a script.
+fn inner(
+    alloc: Global,
+    bytes: &[u8],
+    script: &[Answer],
+    is_ring: bool,
+    capacity: usize,
+) -> io::Result<BufReader<Source>> {
+    let stream = source(alloc, bytes, script)?;
+    Ok(BufReader::with_buffer(holding_in(alloc, is_ring, capacity, b"")?, stream))
 }
 
 // Whether parts end again as they did.
-fn end_again(alloc: Global, parts: &mut Multipart<Source>, lent: bool, log: &Log) -> bool {
-    let mut again = Log::new(alloc);
-    note_all(parts, lent, &mut again);
-    log.text().ends_with(again.text())
+fn ends_again(came: &Came) -> bool {
+    came.parts.text().ends_with(came.again.text())
 }
 
 // Whether what is noted is the beginning of this, and then that the stream ended, or all, and the end.
@@ -129,19 +158,27 @@ fn is_said(noted: &[u8], said: &[u8], is_whole: bool) -> bool {
     }
 }
 
-// Whether just the parts that are there come of the first bytes, and then the end twice, and what is behind stays.
-fn comes(alloc: Global, body: &Body, count: usize, play: Play<'_>) -> io::Result<bool> {
-    let mut log = Log::new(alloc);
-    let capacity = play.capacity.max(body.boundary.len().saturating_add(4));
-    let inner = inner(alloc, first(body.bytes, count), Play { capacity, ..play })?;
-    let mut parts = parts_of(alloc, inner, body.boundary, LIMITS)?;
-    note_all(&mut parts, play.lent, &mut log);
+// Whether just the parts that are there came of the first bytes, and then the end twice, and what is behind stays.
+fn is_right(body: &Body, count: usize, came: &Came) -> bool {
     let is_whole = count >= body.bytes.len().saturating_sub(body.behind.len());
-    let is_so = is_said(log.text(), body.said, is_whole)
-        && (parts.stand() == Stand::Ended) == is_whole
-        && end_again(alloc, &mut parts, play.lent, &log);
-    let rest = parts.into_inner_torn();
-    Ok(is_so && (!is_whole || body.behind.starts_with(rest.buffer())))
+    is_said(came.parts.text(), body.said, is_whole)
+        && ends_again(came)
+        && (!is_whole || body.behind.starts_with(came.behind.text()))
+}
+
+// The same where they come in such pieces, over such a buffer, and are read by slices or lent.
+fn comes(
+    alloc: Global,
+    body: &Body,
+    count: usize,
+    piece: usize,
+    (capacity, is_ring, lent): (usize, bool, bool),
+) -> io::Result<bool> {
+    let capacity = capacity.max(body.boundary.len().saturating_add(4));
+    let script = [Answer::ServeEach(piece)];
+    let inner = inner(alloc, first(body.bytes, count), &script, is_ring, capacity)?;
+    let came = play(alloc, inner, body.boundary, LIMITS, lent)?;
+    Ok(is_right(body, count, &came))
 }
 
 #[test]
@@ -150,14 +187,8 @@ fn reads_parts(rt: HostRuntime) -> Result<(), Fail> {
         for piece in [1, 3, 1000] {
             for capacity in [0, 64, 8192] {
                 for (is_ring, lent) in [(false, false), (false, true), (true, true)] {
-                    let script = [Answer::ServeEach(piece)];
-                    let play = Play {
-                        script: &script,
-                        capacity,
-                        is_ring,
-                        lent,
-                    };
-                    assert!(rt; comes(rt.alloc(), body, body.bytes.len(), play)?);
+                    let how = (capacity, is_ring, lent);
+                    assert!(rt; comes(rt.alloc(), body, body.bytes.len(), piece, how)?);
                 }
             }
         }
@@ -170,14 +201,7 @@ fn tells_where_bodies_are_cut(rt: HostRuntime) -> Result<(), Fail> {
     for body in &BODIES {
         for count in 0..body.bytes.len() {
             for (piece, capacity, lent) in [(1000, 0, false), (7, 64, true), (1000, 8192, false)] {
-                let script = [Answer::ServeEach(piece)];
-                let play = Play {
-                    script: &script,
-                    capacity,
-                    is_ring: false,
-                    lent,
-                };
-                assert!(rt; comes(rt.alloc(), body, count, play)?);
+                assert!(rt; comes(rt.alloc(), body, count, piece, (capacity, false, lent))?);
             }
         }
     }
@@ -194,46 +218,35 @@ static SHOWN: [(&[u8], &[u8]); 6] = [
     (b"--b--", b"end"),
 ];
 
-fn settles<P: ReaderPolicy + Drop>(
-    alloc: Global,
-    inner: BufReader<Source, P>,
-    lent: bool,
-    said: &[u8],
-) -> io::Result<bool> {
-    let mut log = Log::new(alloc);
-    let mut parts = parts_of(alloc, inner, b"b", LIMITS)?;
-    note_all(&mut parts, lent, &mut log);
-    Ok(log.is(said) && asked(parts.get_ref()).len() <= 2)
-}
-
 // The same under such a minimum.
-fn settles_under(
+fn settles(
     alloc: Global,
-    inner: BufReader<Source>,
+    (bytes, said): (&[u8], &[u8]),
     minimum: Option<usize>,
+    is_ring: bool,
     lent: bool,
-    said: &[u8],
 ) -> io::Result<bool> {
-    match minimum {
-        Some(n) => settles(alloc, reader_under(inner, MinBuffered(n)), lent, said),
-        None => settles(alloc, inner, lent, said),
-    }
+    let script = [Answer::Serve(100), Answer::Fail(ErrorKind::TimedOut)];
+    let inner = inner(alloc, bytes, &script, is_ring, 64)?;
+    let came = match minimum {
+        Some(n) => play(
+            alloc,
+            reader_under(inner, MinBuffered(n)),
+            b"b",
+            LIMITS,
+            lent,
+        )?,
+        None => play(alloc, inner, b"b", LIMITS, lent)?,
+    };
+    Ok(came.parts.is(said) && came.asks <= 2)
 }
 
 #[test]
 fn asks_for_nothing_that_is_settled(rt: HostRuntime) -> Result<(), Fail> {
-    let alloc = rt.alloc();
-    for &(bytes, said) in &SHOWN {
+    for &row in &SHOWN {
         for (is_ring, lent) in [(false, false), (false, true), (true, true)] {
             for minimum in [None, Some(0), Some(1), Some(64)] {
-                let play = Play {
-                    script: &[Answer::Serve(100), Answer::Fail(ErrorKind::TimedOut)],
-                    capacity: 64,
-                    is_ring,
-                    lent,
-                };
-                let inner = inner(alloc, bytes, play)?;
-                assert!(rt; settles_under(alloc, inner, minimum, lent, said)?);
+                assert!(rt; settles(rt.alloc(), row, minimum, is_ring, lent)?);
             }
         }
     }
@@ -270,16 +283,9 @@ static WRONG: [(&[u8], &[u8]); 17] = [
 
 // Whether the parts of these bytes, which come in such pieces, end so, twice. The end isn't seen.
 fn fails(alloc: Global, bytes: &[u8], piece: usize, why: &[u8]) -> io::Result<bool> {
-    let mut log = Log::new(alloc);
-    let inner = reader(
-        alloc,
-        100,
-        b"",
-        source(alloc, bytes, &[Answer::ServeEach(piece)])?,
-    )?;
-    let mut parts = parts_of(alloc, inner, b"b", Limits { head: 9, parts: 1 })?;
-    note_all(&mut parts, false, &mut log);
-    Ok(log.is(why) && end_again(alloc, &mut parts, false, &log))
+    let inner = inner(alloc, bytes, &[Answer::ServeEach(piece)], false, 100)?;
+    let came = play(alloc, inner, b"b", Limits { head: 9, parts: 1 }, false)?;
+    Ok(came.parts.is(why) && ends_again(&came))
 }
 
 #[test]
