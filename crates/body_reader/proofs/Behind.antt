@@ -1,5 +1,5 @@
 -- What stands behind a body is looked at.
-use Rattle.std.proofs.Common.{◌≡◌, ◌==◌, Bool, MatchBool, true, false, ℕ, ◌<◌, ◌≤◌, List, [], ◌++◌, length, min, take, Option, Result, MatchResult, Ok, Err, sym, ap, subst, arith, refl, append-nil, length-append}
+use Rattle.std.proofs.Common.{◌≡◌, ◌==◌, Bool, MatchBool, true, false, ℕ, ◌<◌, ◌≤◌, List, [], ◌++◌, length, min, take, Option, Result, MatchResult, Ok, Err, inl, inr, sym, ap, subst, arith, refl, append-nil, length-append}
 use Rattle.std.proofs.lemmas.Bool.{eqb-true}
 use Rattle.std.proofs.lemmas.List.{length-take, nil_from_length}
 use Rattle.std.specs.declared.io.Error.{Error}
@@ -46,6 +46,7 @@ module _ {S Q C P W A : Type 0} (remaining : S → Option (List ℕ)) (rules : R
           answers = answers;
           asked = AskedWhere-of (λ bytes. length bytes < 1) (λ bytes. bytes ≡ []) (unbuffered r) (unbuffered r')
               (λ more few. nil_from_length (r.block.bytes ++ more) (omega (arith, few))) (ReadsAhead-asked ahead);
+          offer = elim ahead.asked [ inl same ↦ inl same | inr over ↦ inr over.offer ];
           still = refl;
           whole = state_is takes (sym (append-nil calls.reads.given)) is
               (known_more g p.place k r.block.bytes order.got r'.block.bytes order.equal is.known);

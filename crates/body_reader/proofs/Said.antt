@@ -1,5 +1,6 @@
 -- What a call says first, in words of lists.
-use Rattle.std.proofs.Common.{◌≡◌, ℕ, List, [], ◌++◌, length, Option, Result, Ok, Err, OnOk, sym, ap, ◌∙◌, arith, append-nil, length-append}
+use Rattle.std.proofs.Common.{◌≡◌, ℕ, ◌≤◌, List, [], ◌++◌, length, min, Option, Result, Ok, Err, OnOk, inl, inr, sym, ap, ◌∙◌, arith, append-nil, length-append}
+use Rattle.std.proofs.lemmas.Bool.{cases_lt}
 use Rattle.std.proofs.lemmas.List.{nil_from_length}
 use Rattle.buffer_redux.specs.BufReader.{ReadsInOrder}
 use Rattle.buffer_redux.specs.Policy.{ReadRules}
@@ -9,8 +10,9 @@ use Rattle.body_reader.specs.Coding.{Grammar, IsBody}
 
 module _ {S Q C P W : Type 0} {remaining : S → Option (List ℕ)} {rules : ReadRules Q} {g : Grammar P W}
     {s t : BodyState S Q C P} where
-  -- what is buffered was buffered, as nothing was asked for
+  -- what is buffered was buffered, as nothing was asked for, and where less was handed out than fits none stays known
   pub buffered_says : (out : List ℕ) (handed : ℕ) → HandsBuffered remaining rules g s out handed t → record {
+    least : min s.known (length out) ≤ handed;
     taken : (wire : List ℕ) × (wire ++ t.reader.block.bytes ≡ s.reader.block.bytes) × (t.taken ≡ s.taken ++ wire);
     reads : HandsBuffered remaining rules g s out handed t;
   }
@@ -20,6 +22,13 @@ module _ {S Q C P W : Type 0} {remaining : S → Option (List ℕ)} {rules : Rea
       let same : given ≡ given ++ order.got = sym (ap (λ l. l.reads.given) reads.told) ∙ order.given in
       let none : order.got ≡ [] = nil_from_length order.got (omega (arith, ap length same, length-append given order.got)) in
       record {
+        least = elim reads.full [
+          | inl all ↦ omega (arith, all)
+          | inr none ↦ elim (cases_lt handed s.known) [
+            | inl less ↦ absurd (omega (arith, less, none, reads.left (omega (arith, less))))
+            | inr more ↦ omega (arith, more)
+          ]
+        ];
         taken = (
           reads.went.wire,
           order.equal ∙ ap (λ l. s.reader.block.bytes ++ l) none ∙ append-nil s.reader.block.bytes,

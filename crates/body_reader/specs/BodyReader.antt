@@ -5,7 +5,7 @@ use Rattle.std.specs.IoError.{error_kind}
 use Rattle.std.specs.declared.io.Error.{Error}
 use Rattle.std.specs.declared.io.ErrorKind.TheVariants.{Other}
 use Rattle.buffer_redux.specs.Buffered.{Buffered}
-use Rattle.buffer_redux.specs.BufReader.{ReaderConsumes, ReadsAlong}
+use Rattle.buffer_redux.specs.BufReader.{OfferedAll, ReaderConsumes, ReadsAlong}
 use Rattle.buffer_redux.specs.Policy.{ReadRules}
 use Rattle.buffer_redux.specs.StreamLog.{StreamLog, after_read, no_calls}
 use Rattle.buffer_redux.specs.Unbuffer.{unbuffered}
@@ -223,7 +223,8 @@ module _ {S Q C P W : Type 0} (remaining : S → Option (List ℕ)) (rules : Rea
     pub noted : NotedIfSome s.calls out handed t.calls
     pub whole : IsBodyReader g t
 
-  -- whether nothing follows what was taken: the stream was asked where nothing was buffered, and nothing else is done
+  -- whether nothing follows what was taken: the stream was asked where nothing was buffered, for as much as there is room for,
+  -- and nothing else is done
   pub record LooksBehind (s : BodyState S Q C P) (answer : Result Bool Error) (t : BodyState S Q C P) : Type 0 where
     pub went : BodyWent s [] t
     pub answers : MatchResult answer
@@ -231,6 +232,7 @@ module _ {S Q C P W : Type 0} (remaining : S → Option (List ℕ)) (rules : Rea
         ((0 < length t.reader.block.bytes) × EachGave s.reader t.reader))
         (λ e. (t.reader.block.bytes ≡ []) × FaultedOnce s.reader e t.reader)
     pub asked : AskedWhere (λ bytes. bytes ≡ []) (unbuffered s.reader) (unbuffered t.reader)
+    pub offer : (t.reader.log ≡ s.reader.log) ⊎ OfferedAll t.reader
     pub still : t ≡ record s { reader = t.reader }
     pub whole : IsBodyReader g t
 

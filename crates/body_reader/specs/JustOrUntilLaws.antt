@@ -168,16 +168,6 @@ module _ (just needle : List ℕ) (room : ℕ) (some : 0 < length just) (shorter
   longer : (body payload : List ℕ) → EndsPart needle Inside body payload → length just < length body
   longer body payload c = omega (arith, shorter, ap length c.0, length-append payload needle)
 
-  -- a body of as many bytes is just those, and so is one without payload, if the delimiter begins with them
-  pub just_of_length : (body payload : List ℕ) → EndsJust just needle at.Start body payload → length body ≡ length just
-      → body ≡ just
-  just_of_length body payload (inl here) same = here.0
-  just_of_length body payload (inr there) same = absurd (omega (arith, same, longer body payload there.1))
-
-  pub just_of_none : (body more : List ℕ) → EndsJust just needle at.Start body [] → needle ≡ just ++ more → body ≡ just
-  just_of_none body more (inl here) is = here.0
-  just_of_none body more (inr there) is = absurd (there.0 more (there.1.0 ∙ is))
-
   -- what begins with just the bytes is no longer body
   not_longer : (a b y xs ys : List ℕ) → a ≡ just → ((more : List ℕ) → ¬ (b ≡ just ++ more)) → length just < length b
       → ¬ (a ++ xs ≡ b ++ ys)

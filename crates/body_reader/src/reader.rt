@@ -108,7 +108,8 @@ impl<R: Tell, C: Coding, P> BodyReader<R, C, P> {
         &self.reader
     }
 
-    /// The stream inside, for changes. What is read through this is in no body.
+    /// The stream inside, for changes. What is read through this is in no body, and another stream in its place is read behind
+    /// what is buffered.
     pub fn get_mut(&mut self) -> &mut R
         ensures* writes_back { sem 𝓛 (Lends (the_row R.row C.row P.row C.Place.row C.Wrong.row R.Tell C.Coding) R.row
             self.entry result (λ stream. record self.old { reader = with_inner R.log self.old.reader stream })) }
@@ -133,9 +134,10 @@ impl<R: Tell, C: Coding, P> BodyReader<R, C, P> {
         reader
     }
 
-    /// Goes on before the next body, which is of this coding, and leaves the old coding in its place. A body that isn't finished
-    /// is torn by that: [`drain`](BodyReader::drain) takes the rest of it.
+    /// Goes on before the next body, which is of this coding, behind one that ended: see [`is_done`](BodyReader::is_done), and
+    /// [`drain`](BodyReader::drain), which takes the rest of one. Leaves the old coding in its place.
     pub fn begin_next(&mut self, coding: &mut C)
+        requires ended { IsBody (C.grammar self.old.coding) self.old.taken self.old.calls.reads.given }
         requires room { (C.grammar coding.old).ahead ≤ self.old.reader.block.capacity }
         ensures before { coding.new ≡ self.old.coding }
         ensures begun { self.new ≡ begun (C.grammar coding.old) self.old.reader coding.old }
@@ -241,6 +243,7 @@ impl<R: TellRead, C: Coding, P: ReaderPolicy> BodyReader<R, C, P> {
     /// more is buffered: the body ended, what is buffered settles nothing, or is wrong, which the next
     /// [`read_payload`](BodyReader::read_payload) tells. It is told as a read where payload is handed out, and else not.
     pub fn read_buffered(&mut self, out: &mut [u8]) -> usize
+        ensures least { min self.old.known (length out.new) ≤ result }
         ensures taken { (wire : List ℕ) × (wire ++ self.new.reader.block.bytes ≡ self.old.reader.block.bytes)
             × (self.new.taken ≡ self.old.taken ++ wire) }
         ensures reads { HandsBuffered R.remaining P.rules (C.grammar self.old.coding) self.old out.new result self.new }

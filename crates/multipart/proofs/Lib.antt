@@ -1,2 +1,1 @@
-mod Placing
 mod Turning

@@ -42,24 +42,15 @@ next front text = after_front front (begun_by text)
 abbrev pub before : ℕ → List ℕ → List ℕ
 before byte text = option_map_or (λ at. take at text) (position (λ here. here == byte) text) text
 
--- from the end of a line on, which no blank continues
-abbrev pub from_line_end : List ℕ → Option (List ℕ)
-from_line_end text = if starts_with nat_eq text crlf && not (is_blank (slice_index text 2)) then Some text else None
-
--- what stands behind the name of a field, that begins a line, and a colon
-abbrev pub field_at : List ℕ → List ℕ → Option (List ℕ)
-field_at name text = option_and_then (after_front (58 ∷ [])) (option_and_then (after_front name) (after_front crlf text))
-
--- what stands behind the name of a parameter, in front of which `;` stands, and `=`, unless that is in quotes
-abbrev pub parameter_at : List ℕ → Bool → List ℕ → Option (List ℕ)
-parameter_at name quoted text = if quoted then None
+-- what a place says of what is sought: the end of a line, which no blank continues, and what stands behind that; what stands behind
+-- a field's name, that begins a line, and a colon; or behind a parameter's, in front of which `;` stands, and `=`, outside quotes
+abbrev pub said_at : Sought → List ℕ → Bool → List ℕ → Option (List ℕ)
+said_at LineEnd name quoted text =
+    if starts_with nat_eq text crlf && not (is_blank (slice_index text 2)) then Some text else None
+said_at Field name quoted text =
+    option_and_then (after_front (58 ∷ [])) (option_and_then (after_front name) (after_front crlf text))
+said_at Parameter name quoted text = if quoted then None
     else option_and_then (next (61 ∷ [])) (option_and_then (next name) (after_front (59 ∷ []) text))
-
--- what a place says of what is sought
-abbrev pub said_at : Sought → Bool → List ℕ → Option (List ℕ)
-said_at LineEnd = λ quoted. from_line_end
-said_at (Field name) = λ quoted. field_at name.now
-said_at (Parameter name) = parameter_at name.now
 
 -- what the first place says that says something: a quote begins and ends quotes
 abbrev pub first_said : (Bool → List ℕ → Option (List ℕ)) → Bool → List ℕ → Option (List ℕ)
@@ -69,11 +60,11 @@ first_said says quoted (byte ∷ rest) =
 
 -- up to the end of the line
 abbrev pub line : List ℕ → List ℕ
-line text = option_map_or (λ rest. take (length text - length rest) text) (first_said (λ quoted. from_line_end) false text) text
+line text = option_map_or (λ rest. take (length text - length rest) text) (first_said (said_at LineEnd []) false text) text
 
 -- the value of the first field of this name
 abbrev pub field_of : List ℕ → List ℕ → Option (List ℕ)
-field_of head name = option_map (λ value. trimmed (line value)) (first_said (λ quoted. field_at name) false head)
+field_of head name = option_map (λ value. trimmed (line value)) (first_said (said_at Field name) false head)
 
 -- what is said behind `=`: what stands in quotes, or else up to `;`
 abbrev pub said : List ℕ → List ℕ
@@ -81,4 +72,4 @@ said text = option_map_or (before 34) (next (34 ∷ []) text) (trimmed (before 5
 
 -- by the first parameter of this name
 abbrev pub parameter_of : List ℕ → List ℕ → Option (List ℕ)
-parameter_of value name = option_map said (first_said (parameter_at name) false value)
+parameter_of value name = option_map said (first_said (said_at Parameter name) false value)

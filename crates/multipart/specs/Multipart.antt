@@ -139,14 +139,6 @@ EndsHead s true t =
     (s.body.taken ≢ hyphens) × (s.parts < s.limits.parts) × (t ≡ turned (record s { parts = s.parts + 1 }) Part)
 
 module _ {S Q : Type 0} (remaining : S → Option (List ℕ)) (rules : ReadRules Q) where
-  -- the rest of the text was dropped, and a head begins behind its end; or why not, within the text
-  abbrev pub LeavesText : FormState S Q → Result (Unit {0}) PartError → FormState S Q → Type 0
-  LeavesText s (Ok _) t = (b : BodyState S Q JustOrUntil JustOr) × (heads : JustOrUntil)
-      × Drains remaining rules (codes s.body.coding) s.body (Ok tt) b × TurnsLast (is_full s) s.other heads
-      × (t ≡ turned (record s { body = b; head = []; other = heads }) Head)
-  LeavesText s (Err e) t = (w : BodyError (Unit {0})) × Drains remaining rules (codes s.body.coding) s.body (Err w) t.body
-      × (e ≡ part_error w) × (t ≡ record s { body = t.body })
-
   -- the head was collected, while it may go on so. The stream is asked only where nothing was settled, and no piece is cut. What
   -- is refused stays buffered; and memory is refused only where there was no room
   abbrev pub CollectsHead : FormState S Q → Result (Unit {0}) (CollectError (Unit {0})) → FormState S Q → Type 0
@@ -155,26 +147,22 @@ module _ {S Q : Type 0} (remaining : S → Option (List ℕ)) (rules : ReadRules
       t.body t.head
       × IfErr answer (λ why. why ≡ collect.Memory → s.room < length t.head + t.body.known)
 
-  -- to its end, or why not
-  abbrev pub CollectsOn : FormState S Q → Result (Unit {0}) PartError → FormState S Q → Type 0
-  CollectsOn s (Ok _) t = CollectsHead s (Ok tt) t
-  CollectsOn s (Err e) t =
+  -- from a head on: to its end, or why not
+  abbrev pub GoesOnFromHead : FormState S Q → Result Bool PartError → FormState S Q → Type 0
+  GoesOnFromHead s (Ok more) t = (m : FormState S Q) × CollectsHead s (Ok tt) m × EndsHead m more t
+  GoesOnFromHead s (Err e) t =
       (why : CollectError (Unit {0})) × (e ≡ head_error (is_full s) why) × CollectsHead s (Err why) t
 
-  -- from a head on
-  abbrev pub GoesOnFromHead : FormState S Q → Result Bool PartError → FormState S Q → Type 0
-  GoesOnFromHead s answer t =
-      ((m : FormState S Q) × (more : Bool) × CollectsOn s (Ok tt) m × EndsHead m more t × (answer ≡ Ok more))
-      ⊎ ((e : PartError) × CollectsOn s (Err e) t × (answer ≡ Err e))
-
-  -- from a text on: also what is left of it is passed
+  -- from a text on: the rest of it was dropped, and a head begins behind its end; or why not, within the text
   abbrev pub PassesText : FormState S Q → Result Bool PartError → FormState S Q → Type 0
-  PassesText s answer t = ((m : FormState S Q) × LeavesText s (Ok tt) m × GoesOnFromHead m answer t)
-      ⊎ ((e : PartError) × (answer ≡ Err e) × LeavesText s (Err e) t)
+  PassesText s answer t = ((b : BodyState S Q JustOrUntil JustOr) × (heads : JustOrUntil)
+      × Drains remaining rules (codes s.body.coding) s.body (Ok tt) b × TurnsLast (is_full s) s.other heads
+      × GoesOnFromHead (turned (record s { body = b; head = []; other = heads }) Head) answer t)
+      ⊎ ((w : BodyError (Unit {0})) × (answer ≡ Err (part_error w)) × (t ≡ record s { body = t.body })
+      × Drains remaining rules (codes s.body.coding) s.body (Err w) t.body)
 
   -- going on to the next part: behind the last one nothing is done
   abbrev pub NextPart : Stand → FormState S Q → Result Bool PartError → FormState S Q → Type 0
   NextPart Ended s answer t = (answer ≡ Ok false) × (t ≡ s)
   NextPart Head s answer t = GoesOnFromHead s answer t
-  NextPart Preamble s answer t = PassesText s answer t
-  NextPart Part s answer t = PassesText s answer t
+  NextPart text s answer t = PassesText s answer t

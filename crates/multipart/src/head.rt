@@ -1,8 +1,8 @@
 //! Fields in the head of a part, and what their parameters say.
-ghost use Rattle.std.specs.Prelude.{◌≡◌, ◌<◌, ◌≤◌, ◌==◌, false, if◌then◌else◌, length, not, position, IfSome};
+ghost use Rattle.std.specs.Prelude.{[], ◌≡◌, ◌<◌, ◌≤◌, ◌==◌, false, if◌then◌else◌, length, not, position, IfSome};
 ghost use Rattle.std.specs.List.{prefix_len};
 ghost use Rattle.std.specs.Option.{option_copied};
-ghost use Rattle.multipart.specs.Head.{before, after_front, field_of, first_said, is_blank, is_opening, line, from_line_end, next, parameter_of, said, said_at, trimmed};
+ghost use Rattle.multipart.specs.Head.{before, after_front, field_of, first_said, is_blank, is_opening, line, next, parameter_of, said, said_at, trimmed};
 
 use body_reader::{Allows, JustOrUntil};
 
@@ -91,35 +91,32 @@ fn before(text: &[u8], byte: u8) -> &[u8]
 
 // What is sought in a text.
 #[derive(Clone, Copy)]
-enum Sought<'a> {
+enum Sought {
     // The end of a line, which no blank continues.
     LineEnd,
-    // A field of this name.
-    Field(&'a [u8]),
-    // A parameter of this name.
-    Parameter(&'a [u8]),
+    // A field of a name.
+    Field,
+    // A parameter of a name.
+    Parameter,
 }
 
-impl Sought<'_> {
+impl Sought {
     // What stands there and behind it, or just behind it; in quotes there is no parameter.
-    fn at(self, quoted: bool, text: &[u8]) -> Option<&[u8]>
-        ensures { option_copied result ≡ said_at self.entry quoted text.now }
+    fn at<'a>(self, name: &[u8], quoted: bool, text: &'a [u8]) -> Option<&'a [u8]>
+        ensures { option_copied result ≡ said_at self name.now quoted text.now }
     {
         match self {
             Sought::LineEnd => from_line_end(text),
-            Sought::Field(name) => after_front(
-                after_front(after_front(text, b"\r\n")?, name)?,
-                b":",
-            ),
-            Sought::Parameter(_) if quoted => None,
-            Sought::Parameter(name) => next(next(after_front(text, b";")?, name)?, b"="),
+            Sought::Field => after_front(after_front(after_front(text, b"\r\n")?, name)?, b":"),
+            Sought::Parameter if quoted => None,
+            Sought::Parameter => next(next(after_front(text, b";")?, name)?, b"="),
         }
     }
 }
 
 // From the end of a line on.
 fn from_line_end(text: &[u8]) -> Option<&[u8]>
-    ensures { option_copied result ≡ from_line_end text.now }
+    ensures { option_copied result ≡ said_at Sought.LineEnd [] false text.now }
 {
     if text.starts_with(b"\r\n") && !(text.len() > 2 && is_blank(text[2])) {
         return Some(text);
@@ -128,12 +125,12 @@ fn from_line_end(text: &[u8]) -> Option<&[u8]>
 }
 
 // What the first place says that says something of what is sought.
-fn first_said<'a>(text: &'a [u8], sought: Sought<'_>) -> Option<&'a [u8]>
-    ensures { option_copied result ≡ first_said (said_at sought.entry) false text.now }
+fn first_said<'a>(text: &'a [u8], sought: Sought, name: &[u8]) -> Option<&'a [u8]>
+    ensures { option_copied result ≡ first_said (said_at sought name.now) false text.now }
 {
     let mut quoted = false;
     for i in 0..text.len() {
-        match sought.at(quoted, &text[i..]) {
+        match sought.at(name, quoted, &text[i..]) {
             Some(said) => return Some(said),
             None => quoted = is_quoted_behind(quoted, text[i]),
         }
@@ -152,7 +149,7 @@ fn is_quoted_behind(quoted: bool, byte: u8) -> bool
 fn line(text: &[u8]) -> &[u8]
     ensures { result.now ≡ line text.now }
 {
-    match first_said(text, Sought::LineEnd) {
+    match first_said(text, Sought::LineEnd, b"") {
         Some(rest) => &text[..text.len().saturating_sub(rest.len())],
         None => text,
     }
@@ -163,7 +160,7 @@ fn line(text: &[u8]) -> &[u8]
 pub fn field<'a>(head: &'a [u8], name: &[u8]) -> Option<&'a [u8]>
     ensures value { option_copied result ≡ field_of head.now name.now }
 {
-    let value = first_said(head, Sought::Field(name))?;
+    let value = first_said(head, Sought::Field, name)?;
     Some(trimmed(line(value)))
 }
 
@@ -183,5 +180,5 @@ fn said(text: &[u8]) -> &[u8]
 pub fn parameter<'a>(value: &'a [u8], name: &[u8]) -> Option<&'a [u8]>
     ensures value { option_copied result ≡ parameter_of value.now name.now }
 {
-    Some(said(first_said(value, Sought::Parameter(name))?))
+    Some(said(first_said(value, Sought::Parameter, name)?))
 }

@@ -1,7 +1,7 @@
 //! The reader of parts.
-ghost use Rattle.std.specs.Prelude.{[], ◌≡◌, ◌≢◌, ◌<◌, ◌≤◌, ◌+◌, ◌⊎◌, ◌∷◌, ◌++◌, length, min, false, take, vec_items, Ok, IfErr, IfOk, IfSome, MatchBool, OnErr};
+ghost use Rattle.std.specs.Prelude.{[], ◌≡◌, ◌≢◌, ◌<◌, ◌≤◌, ◌+◌, ◌⊎◌, ◌∷◌, ◌++◌, if◌then◌else◌, length, min, false, take, vec_items, Ok, IfErr, IfOk, IfSome, MatchBool, OnErr};
 ghost use Rattle.body_reader.specs.BodyReader.{ConsumesPayload, FillsPayload, IsBodyReader, ReadsPayload, TookWholeBody};
-ghost use Rattle.multipart.specs.Multipart.{AreCodings, CollectsOn, EndsHead, GoesOnFromHead, IsBegun, IsForm, LeavesText, NextPart, NoReaderMade, PassesText, TurnsLast, codes, head_most, is_full};
+ghost use Rattle.multipart.specs.Multipart.{AreCodings, GoesOnFromHead, IsBegun, IsForm, NextPart, NoReaderMade, PassesText, TurnsLast, codes};
 
 use crate::error::{NewError, PartError};
 use crate::head::PartHead;
@@ -210,10 +210,10 @@ impl<R: TellRead, P: ReaderPolicy> Multipart<R, P> {
     /// Hands out text of the part, at least a byte unless it ended or the slice is empty; and none where the reader stands in no
     /// part. After a `Truncated` or an `Io` a further call goes on.
     pub fn read(&mut self, out: &mut [u8]) -> Result<usize, BodyError<()>>
-        ensures none { self.old.stand ≢ Stand.Part → (result ≡ Ok 0) × (self.new ≡ self.old) }
         ensures handed { IfOk result (λ n. (n ≤ length out.new)
             × (self.old.stand ≡ Stand.Part
             → self.new.body.calls.reads.given ≡ self.old.body.calls.reads.given ++ take n out.new)) }
+        ensures none { self.old.stand ≢ Stand.Part → (result ≡ Ok 0) × (self.new ≡ self.old) }
         ensures within { self.new ≡ record self.old { body = self.new.body } }
         ensures reads { self.old.stand ≡ Stand.Part → ReadsPayload R.remaining P.rules (codes self.old.body.coding) self.old.body
             out.new result self.new.body }
@@ -227,6 +227,7 @@ impl<R: TellRead, P: ReaderPolicy> Multipart<R, P> {
     /// How many bytes of the part's text are buffered, which [`piece`](Multipart::piece) lends: none only where it ended, or the
     /// reader stands in no part. Where some are known nobody is asked.
     pub fn fill(&mut self) -> Result<usize, BodyError<()>>
+        ensures count { self.old.stand ≡ Stand.Part → IfOk result (λ n. n ≡ self.new.body.known) }
         ensures none { self.old.stand ≢ Stand.Part → (result ≡ Ok 0) × (self.new ≡ self.old) }
         ensures within { self.new ≡ record self.old { body = self.new.body } }
         ensures fills { self.old.stand ≡ Stand.Part → FillsPayload R.remaining P.rules (codes self.old.body.coding) self.old.body
@@ -273,85 +274,50 @@ impl<R: TellRead, P: ReaderPolicy> Multipart<R, P> {
         }
     }
 
-    // Goes on into the part behind this text.
+    // Goes on behind the boundary that ends this text.
     fn pass_text(&mut self) -> Result<bool, PartError>
         requires text { (self.old.stand ≡ Stand.Preamble) ⊎ (self.old.stand ≡ Stand.Part) }
         ensures { PassesText R.remaining P.rules self.old result self.new }
     {
-        self.leave_text()?;
+        self.body.drain()?;
+        turn_last(&mut self.other, self.parts >= self.limits.parts);
+        self.body.begin_next(&mut self.other);
+        self.head.clear();
+        self.stand = Stand::Head;
         self.go_on()
     }
 
-    // Goes on into the part behind this head.
+    // Collects the head while it may go on so: none, where there may be no further part. Goes on into the part behind it, or says
+    // that there is none.
     fn go_on(&mut self) -> Result<bool, PartError>
         requires head { self.old.stand ≡ Stand.Head }
         ensures { GoesOnFromHead R.remaining P.rules self.old result self.new }
     {
-        self.collect()?;
-        Ok(self.end_head())
-    }
-
-    // Whether there may be no further part.
-    fn is_full(&self) -> bool
-        ensures { result ≡ is_full self.now }
-    {
-        self.parts >= self.limits.parts
-    }
-
-    // How many bytes a head may have.
-    fn most(&self) -> usize
-        ensures { result ≡ head_most self.now }
-    {
-        if self.is_full() { 0 } else { self.limits.head }
-    }
-
-    // Goes on behind the boundary that ends this text.
-    fn leave_text(&mut self) -> Result<(), PartError>
-        requires text { (self.old.stand ≡ Stand.Preamble) ⊎ (self.old.stand ≡ Stand.Part) }
-        ensures { LeavesText R.remaining P.rules self.old result self.new }
-    {
-        let full = self.is_full();
-        self.body.drain()?;
-        turn_last(&mut self.other, full);
-        self.body.begin_next(&mut self.other);
-        self.head.clear();
-        self.stand = Stand::Head;
-        Ok(())
-    }
-
-    // Collects the head while it may go on so: none, where there may be no further part.
-    fn collect(&mut self) -> Result<(), PartError>
-        requires head { self.old.stand ≡ Stand.Head }
-        ensures { CollectsOn R.remaining P.rules self.old result self.new }
-    {
-        let full = self.is_full();
-        let most = self.most();
+        let full = self.parts >= self.limits.parts;
+        let most = head_most(full, self.limits);
         let may_be = PartHead { texts: &self.other };
         match self.body.collect_while(&may_be, most, &mut self.head) {
-            Ok(()) => Ok(()),
-            Err(e) => Err(PartError::of_head(e, full)),
+            Ok(()) => {}
+            Err(e) => return Err(PartError::of_head(e, full)),
         }
-    }
-
-    // Goes on into the part behind this head, or says that there is none.
-    fn end_head(&mut self) -> bool
-        requires head { self.old.stand ≡ Stand.Head }
-        requires whole { TookWholeBody (codes self.old.body.coding) self.old.body }
-        ensures { EndsHead self.old result self.new }
-    {
         if self.body.taken() == 2 {
             self.stand = Stand::Ended;
-            return false;
+            return Ok(false);
         }
         let more = self.parts < self.limits.parts;
         prove!(more);
-        // Says that the reader is whole.
-        let _ = self.body.get_ref();
         self.body.begin_next(&mut self.other);
         self.parts += 1;
         self.stand = Stand::Part;
-        true
+        Ok(true)
     }
+}
+
+// How many bytes a head may have.
+fn head_most(full: bool, limits: Limits) -> usize
+    ensures { result ≡ (if full then 0 else limits.head) }
+{
+    if full { 0 } else { limits.head }
 }
 
 // Makes the coding of heads one in which two hyphens alone are a head, where there may be no further part: no other has the

@@ -17,11 +17,10 @@ use Rattle.buffer_redux.specs.Policy.{std_read_rules}
 use Rattle.buffer_redux.specs.ReaderLaws.{ReadsInOrder-joins}
 use Rattle.buffer_redux.specs.declared.policy.StdPolicy.{StdPolicy}
 use Rattle.multipart.specs.declared.error.PartError.{PartError}
-use Rattle.multipart.specs.declared.error.PartError.TheVariants as part
 use Rattle.multipart.specs.declared.reader.Limits.{Limits}
 use Rattle.multipart.specs.declared.reader.Stand.TheVariants.{Preamble, Head, Part}
 use Rattle.multipart.specs.Head.{IsPartHead}
-use Rattle.multipart.specs.Multipart.{CollectsHead, EndsHead, FormState, GoesOnFromHead, LeavesText, NextPart, PassesText, TurnsLast, codes, head_error, head_most, is_full, part_error, turned}
+use Rattle.multipart.specs.Multipart.{CollectsHead, EndsHead, FormState, GoesOnFromHead, NextPart, PassesText, TurnsLast, codes, head_error, head_most, is_full, part_error, turned}
 use Rattle.parts.specs.Sections.{BehindText, InHead, InSection, InText, NextFails, PassedAll, Turn}
 
 -- what comes of going on behind a text
@@ -86,30 +85,30 @@ module _ {S : Type 0} (remaining : S → Option (List ℕ)) (texts heads : JustO
     }
 
     -- a text that doesn't end
-    pub text_fails : (e : PartError) (t : FormState S StdPolicy) → LeavesText remaining std_read_rules s (Err e) t
-        → NextFails texts heads first turns (handed_of t.body) s.limits e t
-    text_fails e t (w, drains, same, within) =
+    text_fails : (w : BodyError (Unit {0})) (t : FormState S StdPolicy) → t ≡ record s { body = t.body }
+        → Drains remaining std_read_rules (codes s.body.coding) s.body (Err w) t.body
+        → NextFails texts heads first turns (handed_of t.body) s.limits (part_error w) t
+    text_fails w t within drains =
         let text = handed_of t.body in
         let inside : InSection texts heads first turns text t =
         inl (before, inside_on before s t drains.payload is within drains.takes.went, refl) in
-        subst (λ x. NextFails texts heads first turns text s.limits x t) (sym same) (elim drains.answers [
+        elim drains.answers [
           | inl none ↦ no_payload text s.body t w s.limits inside gave
               (subst (λ c. NoPayload (codes c) s.body w t.body) (sym drains.takes.went.coding) none)
-          | inr many ↦
-              subst (λ x. NextFails texts heads first turns text s.limits (part_error x) t) (sym many.1) (
-                inside,
-                inr (
-                  many.2,
-                  omega (
-                    arith,
-                    many.3,
-                    ap length drains.takes.went.handed,
-                    length-append (handed_of s.body) drains.payload,
-                  ),
-                  EachGave-joins first s.body.reader t.body.reader gave many.4,
-                ),
-              )
-        ])
+          | inr many ↦ subst (λ x. NextFails texts heads first turns text s.limits (part_error x) t) (sym many.1) (
+            inside,
+            inr (
+              many.2,
+              omega (
+                arith,
+                many.3,
+                ap length drains.takes.went.handed,
+                length-append (handed_of s.body) drains.payload,
+              ),
+              EachGave-joins first s.body.reader t.body.reader gave many.4,
+            ),
+          )
+        ]
 
     module _ (b : Body S) (h : JustOrUntil) (drains : Drains remaining std_read_rules (codes s.body.coding) s.body (Ok tt) b)
         (last : TurnsLast (is_full s) s.other h) where
@@ -242,14 +241,8 @@ module _ {S : Type 0} (remaining : S → Option (List ℕ)) (texts heads : JustO
 
       goes_on : (answer : Result Bool PartError) (t : FormState S StdPolicy)
           → GoesOnFromHead remaining std_read_rules behind answer t → Comes answer t
-      goes_on answer t (inl (m, more, head, end, same)) = subst (λ x. Comes x t) (sym same) (ends head more t end)
-      goes_on answer t (inr (e, (why, is', head), same)) =
-          subst (λ x. Comes x t) (sym (same ∙ ap Err is')) (fails (is_full s) refl why t head)
-
-      fails_behind : (e : PartError) (t : FormState S StdPolicy) → GoesOnFromHead remaining std_read_rules behind (Err e) t
-          → (wire : List ℕ) × BehindText texts heads first turns (handed_of b) wire t.body.reader
-      fails_behind e t (inl (m, more, head, end, same)) = absurd (let odd = same in cc)
-      fails_behind e t (inr (e', (why, is', head), same)) = (t.body.taken, behind_text head)
+      goes_on (Ok more) t (m, head, end) = ends head more t end
+      goes_on (Err e) t (why, is', head) = subst (λ x. Comes (Err x) t) (sym is') (fails (is_full s) refl why t head)
 
     -- what comes of going on to the next part: the text is this, and where it had ended it is what had come
     abbrev NextComes : Result Bool PartError → FormState S StdPolicy → Type 0
@@ -258,28 +251,24 @@ module _ {S : Type 0} (remaining : S → Option (List ℕ)) (texts heads : JustO
 
     passes : (answer : Result Bool PartError) (t : FormState S StdPolicy)
         → PassesText remaining std_read_rules s answer t → NextComes answer t
-    passes answer t (inl (m, (b, h, drains, last, same), goes)) = (
-      handed_of b,
-      (λ whole. ap handed_of (drains.takes.ended whole)),
-      goes_on b h drains last answer t (subst (λ x. GoesOnFromHead remaining std_read_rules x answer t) same goes),
-    )
-    passes answer t (inr (e, same, leaves)) = (
+    passes answer t (inl (b, h, drains, last, goes)) =
+        (handed_of b, (λ whole. ap handed_of (drains.takes.ended whole)), goes_on b h drains last answer t goes)
+    passes answer t (inr (w, same, within, drains)) = (
       handed_of t.body,
-      (λ whole. ap handed_of (leaves.1.takes.ended whole)),
-      subst (λ x. ComesBehind texts heads first turns (handed_of t.body) s.limits x t) (sym same) (text_fails e t leaves),
+      (λ whole. ap handed_of (drains.takes.ended whole)),
+      subst (λ x. ComesBehind texts heads first turns (handed_of t.body) s.limits x t) (sym same) (text_fails w t within drains),
     )
 
     -- also what fails is behind a text that had ended
     passes_behind : (e : PartError) (t : FormState S StdPolicy) → PassesText remaining std_read_rules s (Err e) t
         → TookWholeBody (codes s.body.coding) s.body
         → (wire : List ℕ) × BehindText texts heads first turns (handed_of s.body) wire t.body.reader
-    passes_behind e t (inl (m, (b, h, drains, last, same), goes)) whole =
+    passes_behind e t (inl (b, h, drains, last, (why, is', head))) whole =
         subst (λ d. (wire : List ℕ) × BehindText texts heads first turns (handed_of d) wire t.body.reader)
-        (drains.takes.ended whole)
-        (fails_behind b h drains last e t (subst (λ x. GoesOnFromHead remaining std_read_rules x (Err e) t) same goes))
-    passes_behind e t (inr (e', same, leaves)) whole = (
+        (drains.takes.ended whole) (t.body.taken, behind_text b h drains last head)
+    passes_behind e t (inr (w, same, within, drains)) whole = (
       [],
-      subst (λ d. BehindText texts heads first turns (handed_of s.body) [] d.reader) (sym (leaves.1.takes.ended whole))
+      subst (λ d. BehindText texts heads first turns (handed_of s.body) [] d.reader) (sym (drains.takes.ended whole))
           (text_behind (subst (λ c. TookWholeBody (codes c) s.body) is.coding whole)),
     )
 

@@ -101,9 +101,9 @@ fn note_text(body: &mut BodyReader<Source, JustOrUntil>, log: &mut Log) {
     }
 }
 
-// Goes on to the next body, where the buffer has room for a look.
+// Goes on to the next body, where this one ended and the buffer has room for a look.
 fn turn(body: &mut BodyReader<Source, JustOrUntil>, other: &mut JustOrUntil) {
-    if body.get_ref().capacity() >= other.ahead() {
+    if body.is_done() && body.get_ref().capacity() >= other.ahead() {
         body.begin_next(other);
     }
 }

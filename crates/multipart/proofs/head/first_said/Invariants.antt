@@ -4,4 +4,5 @@ use Rattle.multipart.proofs.head.first_said.Given as goal
 
 -- no place before says anything
 abbrev pub invariant-loop-i : goal.invariant-loop-i
-invariant-loop-i l = first_said (said_at l.sought) false l.text ≡ first_said (said_at l.sought) l.quoted (drop l.i l.text)
+invariant-loop-i l =
+    first_said (said_at l.sought l.name) false l.text ≡ first_said (said_at l.sought l.name) l.quoted (drop l.i l.text)
