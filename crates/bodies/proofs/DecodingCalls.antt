@@ -12,7 +12,7 @@ use Rattle.body_reader.specs.AskingLaws.{AskedWhere-behind}
 use Rattle.body_reader.specs.Between.{EachGave, TellsOnce}
 use Rattle.body_reader.specs.BodyReader.{Breaks, EndsEarly}
 use Rattle.body_reader.specs.BodyReaderLaws.{BodyWent-joins}
-use Rattle.body_reader.specs.Coding.{AskedFor, IsOpen, LeadsOpen}
+use Rattle.body_reader.specs.Coding.{AskedFor, LeadsOpen}
 use Rattle.body_reader.specs.CodingLaws.{Leads-joins, Leads-more}
 use Rattle.body_reader.specs.declared.error.BodyError.{BodyError}
 use Rattle.body_reader.specs.declared.error.BodyError.TheVariants as body
@@ -35,10 +35,6 @@ use Rattle.bodies.specs.declared.decoding.Decoding.{Decoding}
 use Rattle.bodies.proofs.Coming.{some_given, taken_some}
 use Rattle.bodies.proofs.Passing.{passed_none, passed_some, wire_some}
 
--- bytes that settle nothing are none
-open_none : {R : Type 0} (d : ChunkedState R) (bytes : List ℕ) → IsOpen (chunked d.coding.0) d.place bytes → bytes ≡ []
-open_none d bytes open' = nil_from_length bytes (omega (arith, open'.few))
-
 -- the payload in what was taken is due, and bytes that hold none make no more due
 due_on : {R : Type 0} (d : ChunkedState R) → IsBodyReader (chunked d.coding.0) d → (bytes : List ℕ)
     → LeadsOpen (chunked d.coding.0) d.place [] bytes → IsDue d.coding.0 (d.taken ++ bytes) (handed_of d)
@@ -55,7 +51,7 @@ early_none : {R : Type 0} (d : ChunkedState R) → EndsEarly (chunked d.coding.0
     → ((payload : List ℕ) → ¬ IsBodyOfChunks d.coding.0 d.taken payload) × (d.reader.block.bytes ≡ [])
 early_none d early = (
   λ payload whole. early.none d.taken payload d.reader.block.bytes whole refl,
-  open_none d d.reader.block.bytes early.settles_nothing,
+  nil_from_length d.reader.block.bytes (omega (arith, early.settles_nothing.few)),
 )
 
 -- where less was handed out than could be, no payload is buffered
@@ -252,7 +248,7 @@ module _ {R W : Type 0} (remaining : R → Option (List ℕ)) (s : Decoding R W)
     abbrev Such : List ℕ → Type 0
     Such bytes = IsDue s.source.coding.0 (s.source.taken ++ bytes) (handed_of s.source)
 
-    module _ (answer : Result ℕ (BodyError Malformed))
+    module _ {answer : Result ℕ (BodyError Malformed)}
         (p : ReadsPayload remaining std_read_rules (chunked s.source.coding.0) s.source out answer m) where
       over : Source.AsksPromptly s.source m
       over = record {
@@ -281,16 +277,15 @@ module _ {R W : Type 0} (remaining : R → Option (List ℕ)) (s : Decoding R W)
         → FilterAsks rules s (Ok true) (asked m n)
     asked_more lacks n p some =
         let gave = p.answers.1 in
-        asks_so m n (omega (arith, p.answers.0, len, ready.room)) p.went (here (Ok n) p) (over (Ok n) p)
+        asks_so m n (omega (arith, p.answers.0, len, ready.room)) p.went (here p) (over p)
         (omega (arith, gave.zero_reads)) (Ok true) (
           some,
           gave.faults,
           inl (record { zero_reads = gave.zero_reads; give = omega (arith, gave.asks, ap length gave.faults) }),
-          some_came m n (over (Ok n) p) (omega (
+          some_came m n (over p) (omega (
             arith,
             gave.zero_reads,
-            some_given remaining s.source m ready.whole out (Ok n) p (taken_some remaining s.source m ready.whole out n p some)
-                lacks,
+            some_given remaining s.source m ready.whole out _ p (taken_some remaining s.source m ready.whole out n p some) lacks,
           )),
         )
 
@@ -308,12 +303,12 @@ module _ {R W : Type 0} (remaining : R → Option (List ℕ)) (s : Decoding R W)
         (waits, fault, still, same ∙ passed_none remaining s.source m went tells is)
 
     -- where bytes were taken in it, bytes came
-    came_given : NoneBuffered s.source → (answer : Result ℕ (BodyError Malformed))
-        → ReadsPayload remaining std_read_rules (chunked s.source.coding.0) s.source out answer m
+    came_given : NoneBuffered s.source → {answer : Result ℕ (BodyError Malformed)}
+        (p : ReadsPayload remaining std_read_rules (chunked s.source.coding.0) s.source out answer m)
         → true ≡ nat_lt (taken_count s.source) (taken_count m)
         → length s.source.reader.log.reads.given < length m.reader.log.reads.given
-    came_given lacks answer p came =
-        some_given remaining s.source m ready.whole out answer p (wire_some remaining s.source m p.went came) lacks
+    came_given lacks p came =
+        some_given remaining s.source m ready.whole out _ p (wire_some remaining s.source m p.went came) lacks
 
     -- the ask for a piece failed
     pub asked_failed : NoneBuffered s.source → (e : BodyError Malformed) (came : Bool)
@@ -321,27 +316,23 @@ module _ {R W : Type 0} (remaining : R → Option (List ℕ)) (s : Decoding R W)
         → ReadsPayload remaining std_read_rules (chunked s.source.coding.0) s.source out (Err e) m
         → FilterAsks rules s (Err (ask_error came e)) (asked m s.held)
     asked_failed lacks (body.Wrong why right) came is p =
-        let answer = Err (body.Wrong why right) in
         let gave = p.answers.1 in
-        let breaks = breaks_at m (here answer p) why (rw p.went.coding p.answers.2.name) in
-        asks_none m p.went (here answer p) (over answer p) (omega (arith, gave.zero_reads))
-        (Err (ask_error came (body.Wrong why right)))
+        let breaks = breaks_at m (here p) why (rw p.went.coding p.answers.2.name) in
+        asks_none m p.went (here p) (over p) (omega (arith, gave.zero_reads)) (Err (ask_error came (body.Wrong why right)))
         ((none, (breaks, p.answers.0)), gave.faults)
     asked_failed lacks (body.Truncated right) came is p =
-        let answer = Err (body.Truncated right) in
         let met = p.answers.1 in
         let found = early_none m (subst (λ c. EndsEarly (chunked c.0) m) (sym p.went.coding) p.answers.2) in
-        asks_none m p.went (here answer p) (over answer p) (omega (arith, met.1)) (Err (ask_error came (body.Truncated right)))
+        asks_none m p.went (here p) (over p) (omega (arith, met.1)) (Err (ask_error came (body.Truncated right)))
         ((none, (found.0, found.1, omega (arith, met.1), p.answers.0)), met.0)
     asked_failed lacks (body.Io e) came is p =
-        let answer = Err (body.Io e) in
         let fault = p.answers.0 in
         let found = early_none m (subst (λ c. EndsEarly (chunked c.0) m) (sym p.went.coding) p.answers.1) in
-        asks_none m p.went (here answer p) (over answer p) (omega (arith, fault.1)) (Err (ask_error came (body.Io e)))
+        asks_none m p.went (here p) (over p) (omega (arith, fault.1)) (Err (ask_error came (body.Io e)))
         (faulted e came is p.went p.tells m refl (none, found.1) fault.0 (inl (record {
           zero_reads = fault.1;
-          give = fault_gives Such s.source.reader m.reader (over answer p) e fault.0;
-        })) (λ taken. some_came m s.held (over answer p) (omega (arith, fault.1, came_given lacks answer p taken))))
+          give = fault_gives Such s.source.reader m.reader (over p) e fault.0;
+        })) (λ taken. some_came m s.held (over p) (omega (arith, fault.1, came_given lacks p taken))))
 
     -- the body ended, and then it was asked whether more follows
     module _ (lacks : NoneBuffered s.source) (k : ℕ) (nothing : k ≡ 0)
@@ -356,17 +347,16 @@ module _ {R W : Type 0} (remaining : R → Option (List ℕ)) (s : Decoding R W)
       due = subst (λ c. IsDue c.0 (s.source.taken ++ first.wire) (handed_of s.source)) first.coding
           (subst (λ l. IsDue m.coding.0 l (handed_of s.source)) first.taken
           (subst (IsDue m.coding.0 m.taken) (first.handed ∙ append-nil (handed_of s.source))
-          (record { place = m.place; part = record { leads = (here (Ok k) p).leads; is_place = p.whole.place } })))
+          (record { place = m.place; part = record { leads = (here p).leads; is_place = p.whole.place } })))
 
-      module _ (end : Result Bool Error) (looks : LooksBehind remaining std_read_rules (chunked m.coding.0) m end t) where
+      module _ {end : Result Bool Error} (looks : LooksBehind remaining std_read_rules (chunked m.coding.0) m end t) where
         done : TookWholeBody (chunked t.coding.0) t
         done = rw (looks.still, p.went.coding) (p.answers.2 nothing (omega (arith, len, ready.room)))
 
         over_on : Source.AsksPromptly s.source t
         over_on = record {
           asked = AskedWhere-behind s.source.reader m.reader t.reader first.wire first.along.in_order gave Such
-              (λ bytes. bytes ≡ []) (λ more none. rw (none, append-nil) due)
-              (over (Ok k) p).asked looks.asked;
+              (λ bytes. bytes ≡ []) (λ more none. rw (none, append-nil) due) (over p).asked looks.asked;
           grows = ReadLogGrows-joins s.source.reader.log.reads m.reader.log.reads t.reader.log.reads first.along.grows
               looks.went.along.grows;
         }
@@ -385,31 +375,26 @@ module _ {R W : Type 0} (remaining : R → Option (List ℕ)) (s : Decoding R W)
           → LooksBehind remaining std_read_rules (chunked m.coding.0) m end t
           → FilterAsks rules s (end_answer came end (taken_count t)) (asked t s.held)
       asked_behind came is (Ok true) looks =
-          let left = looks.answers.0 in
           let met = looks.answers.1 in
-          asks_behind (Ok true) looks (Ok false) (omega (arith, met.1)) (
-            (none, (done (Ok true) looks, left, omega (arith, met.1, gave.zero_reads))),
-            met.0 ∙ gave.faults,
-          )
+          asks_behind looks (Ok false) (omega (arith, met.1))
+          ((none, (done looks, looks.answers.0, omega (arith, met.1, gave.zero_reads))), met.0 ∙ gave.faults)
       asked_behind came is (Ok false) looks =
-          let some = looks.answers.0 in
           let more = looks.answers.1 in
-          asks_behind (Ok false) looks (end_answer came (Ok false) (taken_count t)) (omega (arith, more.zero_reads))
-          ((none, (done (Ok false) looks, some, refl)), more.faults ∙ gave.faults)
+          asks_behind looks (end_answer came (Ok false) (taken_count t)) (omega (arith, more.zero_reads))
+          ((none, (done looks, looks.answers.0, refl)), more.faults ∙ gave.faults)
       asked_behind came is (Err e) looks =
-          let left = looks.answers.0 in
           let failed = looks.answers.1 in
           let fault = failed.0 ∙ ap (λ l. l ++ e ∷ []) gave.faults in
-          asks_behind (Err e) looks (end_answer came (Err e) (taken_count t)) (omega (arith, failed.1))
-          (faulted e came is first (rw nothing at p.tells) t (ap (λ d. most_wanted d) looks.still) (none, left) fault
-          (inl (record {
+          asks_behind looks (end_answer came (Err e) (taken_count t)) (omega (arith, failed.1))
+          (faulted e came is first (rw nothing at p.tells) t (ap (λ d. most_wanted d) looks.still) (none, looks.answers.0)
+          fault (inl (record {
             zero_reads = failed.1 ∙ gave.zero_reads;
-            give = fault_gives Such s.source.reader t.reader (over_on (Err e) looks) e fault;
-          })) (λ taken. some_came t s.held (over_on (Err e) looks) (omega (
+            give = fault_gives Such s.source.reader t.reader (over_on looks) e fault;
+          })) (λ taken. some_came t s.held (over_on looks) (omega (
             arith,
             failed.1,
             gave.zero_reads,
-            came_given lacks (Ok k) p taken,
+            came_given lacks p taken,
             ap length looks.went.along.grows.given.equal,
             length-append m.reader.log.reads.given looks.went.along.grows.given.more,
           ))))
