@@ -1,11 +1,12 @@
-//! Laws, each as the contract of a function. What its grammars and exact relations come to in lists stands in front.
+//! Laws, each as the contract of a function. What its grammars and exact relations come to in lists stands in front, but in
+//! `one_cut` and `no_byte_between`, which join whole grammars and whole calls: no fact of few words is as much.
 ghost use Rattle.std.specs.Prelude.{◌≡◌, ℕ, ◌<◌, ◌≤◌, List, ◌∷◌, [], ◌++◌, length, false, IfErr, IfOk, Some};
 ghost use Rattle.buffer_redux.specs.Unbuffer.{Unbuffered, unbuffer_remaining};
 ghost use Rattle.codec.specs.declared.HeaderError.{HeaderError};
 ghost use Rattle.codec.specs.declared.Header.TheVariants as header;
 ghost use Rattle.codec.specs.PieceReader.{ReaderState, left_of, rest};
 ghost use Rattle.codec.specs.Scanning.{scan_on};
-ghost use Rattle.httparse.specs.Grammar.{IsRequestHead, ReadsRequest, RequestHead, print_request};
+ghost use Rattle.httparse.specs.Grammar.{IsRequestHead, RequestHead, print_request};
 ghost use Rattle.messages.specs.Lines.{EndsByBoth, texts, turn};
 ghost use Rattle.messages.specs.declared.lines.Before.TheVariants.{Start};
 ghost use Rattle.messages.specs.declared.head.Heads as head;
@@ -30,22 +31,17 @@ pub fn never_refused()
 
 /// No message begins another: a text is cut into so many messages in one way.
 pub fn one_cut()
-    ensures heads { (h k : RequestHead) (bytes xs ys : List ℕ) → ReadsRequest bytes h xs → ReadsRequest bytes k ys
-        → (h ≡ k) × (xs ≡ ys) }
-    ensures one { (limits : Limits) (messages others : List Message) (text text' behind behind' : List ℕ)
+    ensures { (limits : Limits) (messages others : List Message) (text text' behind behind' : List ℕ)
         → length messages ≡ length others → AreMessages limits messages text → AreMessages limits others text'
         → text ++ behind ≡ text' ++ behind'
         → (messages ≡ others) × (behind ≡ behind') }
 {}
 
 /// However a stream is cut into reads, and whatever its reads answered: from `next` to `finish`, whatever was read of the body
-/// between, just a message goes, so the next one begins where this one ended (`one`, `many`), as the bytes of both calls show
-/// (`joins`). So of a stream that is known the messages that went are its first, and what follows them is left (`known`). Where a
-/// call failed, the reader that it hands back stands before the same head, or in the same body, of which what was taken is gone
-/// (`next`, `read` and `finish` say so).
+/// between, just a message goes, so the next one begins where this one ended (`one`, `many`). So of a stream that is known the
+/// messages that went are its first, and what follows them is left (`known`). Where a call failed, the reader that it hands back
+/// stands before the same head, or in the same body, of which what was taken is gone (`next`, `read` and `finish` say so).
 pub fn no_byte_between<R: TellRead>(requests: &Requests<R>)
-    ensures joins { (before head left wire got more : List ℕ) → head ++ left ≡ before ++ got
-        → wire ++ rest requests.now ≡ left ++ more → (head ++ wire) ++ rest requests.now ≡ before ++ (got ++ more) }
     ensures one { (s : ReaderState R head.Heads) (b m : InBody R) (handed : List ℕ) → Begun R.remaining s b
         → InsideGoes R.remaining b handed m → (ends : FinishesBody R.remaining m requests.now)
         → MessagesWent R.remaining s.decoder.0 (left_of s) ((b.head, handed ++ ends.drains.payload) ∷ [])

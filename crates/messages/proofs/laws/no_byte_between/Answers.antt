@@ -1,13 +1,8 @@
 -- Messages join where the one ends and the next begins, and a text is cut into so many in one way.
-use Rattle.std.proofs.Common.{◌++◌, Some, ap, append_assoc, sym, ◌∙◌}
-use Rattle.messages.specs.Names.{left_of, rest, StreamWent-front}
+use Rattle.std.proofs.Common.{◌++◌, Some, ap, sym, ◌∙◌}
+use Rattle.messages.specs.Names.{left_of, StreamWent-front}
 use Rattle.messages.specs.MessagesLaws.{MessagesWent-joins, MessagesWent-one, one_cut}
 use Rattle.messages.proofs.laws.no_byte_between.Goals as goal
-
-pub returns-clause-joins : goal.returns-clause-joins
-returns-clause-joins g c = λ before head left wire got more first then.
-    append_assoc head wire (rest c.args.requests.now) ∙ ap (λ l. head ++ l) then ∙ sym (append_assoc head left more)
-    ∙ ap (λ l. l ++ more) first ∙ append_assoc before got more
 
 pub returns-clause-one : goal.returns-clause-one
 returns-clause-one g c = λ s b m handed begun goes ends.
