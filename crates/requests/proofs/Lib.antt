@@ -2,6 +2,7 @@ pub mod Answering
 pub mod Coming
 pub mod Large
 pub mod Reading
+pub mod RowLaws
 pub mod Sending
 pub mod Turns
 pub mod Names

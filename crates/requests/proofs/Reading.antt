@@ -1,5 +1,5 @@
 -- What reads of a run met.
-use Rattle.std.proofs.Common.{◌≡◌, ◌≢◌, ℕ, ◌+◌, ◌≤◌, true, false, List, [], ◌∷◌, ◌++◌, All, length, Option, None, Some, Result, Ok, Err, IfOk, IfErr, sym, ap, subst, inl, inr, ◌∙◌, refl, arith, append_assoc, append-nil, length-append}
+use Rattle.std.proofs.Common.{◌≡◌, ℕ, ◌+◌, ◌≤◌, true, false, List, [], ◌∷◌, ◌++◌, All, length, Option, None, Some, Result, Ok, Err, IfOk, IfErr, sym, ap, subst, inl, inr, ◌∙◌, refl, arith, append_assoc, append-nil, length-append}
 use Rattle.requests.proofs.Names.{All-append, All-nil, AskedWhere, AsksFew, BadHead, BadRequest, Begun, Begun-went, body_error, body_rules, BodyCoding, BodyPlace, Breaks, Closes, coding_of, ends_of, Enters, Error, FailsInRead, FailsToFinish, FaultAfterInterrupts, FaultAfterInterrupts-after, faults_of, FinishesBody, handed_of, Heads, heads, InBody, Inside, InsideGoes, Io, IsBodyReader, IsHead, IsMany, IsOpen, IsPartTaken, IsToBeRefused, LeadsOpen, left_of, Malformed, MayFollow, Message, MetEnd, MetEnd-once, NextAnswer, NextAnswers, NextPiece, NoEnd, NoFault, NoPayload, OnlyInterrupts, OnlyInterrupts-joins, OnlyInterrupts-none, OnlyInterrupts-one, PiecesWent-stream, Reader, ReaderState, ReadsAlong-stream, ReadsPayload, ReadsSome, ReadsSteadily, Side, std_read_rules, stream_in, StreamWent, StreamWent-joins, TakeFails, TellsWhy, TookWholeBody, Truncated, Unbuffered, unbuffered, Untaken, usual, WhyNone, Wrong}
 use Rattle.body_reader.specs.BetweenLaws.{AsksWithRoom-open}
 use Rattle.body_reader.specs.BodyReaderLaws.{BodyWent-leads}
@@ -9,10 +9,8 @@ use Rattle.body_reader.specs.declared.either.Side.TheVariants as side
 use Rattle.body_reader.specs.declared.error.BodyError.TheVariants as unread
 use Rattle.codec.specs.declared.NextError.TheVariants as why
 use Rattle.messages.specs.declared.error.BodyError.{BodyError}
-use Rattle.redux_buffer.specs.Faults.{IsInterrupt}
+use Rattle.redux_buffer.specs.Faults.{interrupt_limit, IsInterrupt}
 use Rattle.requests.specs.declared.taking.Untaken.TheVariants.{Body, Large, Unsent, Many}
-use Rattle.std.specs.IoError.{error_kind}
-use Rattle.std.specs.declared.io.ErrorKind.TheVariants.{Interrupted}
 
 -- no fault was met, or one
 pub none_met : {a b : List Error} → b ≡ a → OnlyInterrupts a b
@@ -227,7 +225,7 @@ module _ {S : Type 0} (remaining : S → Option (List ℕ)) (s t : InBody S) (ou
 
   -- why it failed is why the whole isn't taken
   none_comes : (place : Side ℕ BodyPlace) (why : WhyNone)
-      → ((e : Error) → body_error place why ≡ Io e → error_kind e ≢ Interrupted) → AsksFew (stream_in s) (stream_in t)
+      → ((e : Error) → body_error place why ≡ Io e → IsInterrupt e → interrupt_limit ≤ length (faults_of (stream_in s))) → AsksFew (stream_in s) (stream_in t)
       → NoPayload (body_rules t.body.coding) s.body why t.body → TakeFails (stream_in s) (Body (body_error place why)) t
   none_comes place (unread.Wrong (side.First none) right) hard few fails =
       (few, none_met fails.1.faults, inl (refl, inl (side.First none, fails.2)))
@@ -237,22 +235,43 @@ module _ {S : Type 0} (remaining : S → Option (List ℕ)) (s t : InBody S) (ou
       (few, none_met fails.1.0, inl (refl, inr (omega (arith, fails.1.1), fails.2)))
   none_comes (side.Second q) (unread.Truncated right) hard few fails =
       (few, none_met fails.1.0, inl (refl, inr (omega (arith, fails.1.1), fails.2)))
-  none_comes place (unread.Io e) hard few fails =
-      (few, (failed_behind _ _ _ e (OnlyInterrupts-none (faults_of (stream_in s))) fails.0.0, hard e refl))
+  none_comes place (unread.Io e) hard few fails = (
+    few,
+    (
+      failed_behind _ _ _ e (OnlyInterrupts-none (faults_of (stream_in s))) fails.0.0,
+      λ is. omega (arith, hard e refl is, ap length fails.0.0, length-append (faults_of (stream_in s)) (e ∷ [])),
+    ),
+  )
 
-  pub read_fails : (e : BodyError) → Reads (Err e) → ((fault : Error) → e ≡ Io fault → error_kind fault ≢ Interrupted)
+  pub read_fails : (e : BodyError) → Reads (Err e)
+      → ((fault : Error) → e ≡ Io fault → IsInterrupt fault → interrupt_limit ≤ length (faults_of (stream_in s)))
       → TakeFails (stream_in s) (Body e) t
   read_fails e (why, told, reads) hard = subst (λ x. TakeFails (stream_in s) (Body x) t) (sym told)
       (none_comes t.body.place why (λ x is. hard x (told ∙ is))
       (none_few why reads.answers (read_asked (Err e) (why, told, reads)))
       (subst (λ c. NoPayload (body_rules c) s.body why t.body) (sym reads.went.coding) reads.answers))
 
+  -- no read fails twice
+  none_faults : (why : WhyNone) → NoPayload (body_rules s.body.coding) s.body why t.body
+      → length (faults_of (stream_in t)) ≤ length (faults_of (stream_in s)) + 1
+  none_faults (unread.Wrong name right) fails = omega (arith, ap length fails.1.faults)
+  none_faults (unread.Truncated right) fails = omega (arith, ap length fails.1.0)
+  none_faults (unread.Io e) fails = omega (arith, ap length fails.0.0, length-append (faults_of (stream_in s)) (e ∷ []))
+
+  pub read_faults : (e : BodyError) → Reads (Err e)
+      → length (faults_of (stream_in t)) ≤ length (faults_of (stream_in s)) + 1
+  read_faults e (why, told, reads) = none_faults why reads.answers
+
+  pub read_fault : (told : BodyError) (e : Error) → Reads (Err told) → told ≡ Io e
+      → NoPayload (body_rules s.body.coding) s.body (unread.Io e) t.body
+  read_fault told e (why, is, reads) same = subst (λ x. NoPayload (body_rules s.body.coding) s.body x t.body)
+      (was_fault t.body.place why e (sym same ∙ is)) reads.answers
+
   -- it was interrupted
   pub read_again : (told : BodyError) (e : Error) → Reads (Err told) → told ≡ Io e → IsInterrupt e
       → ReadsSome (stream_in s) 0 t
   read_again told e (why, is, reads) same interrupted =
-      let fault = subst (λ x. NoPayload (body_rules s.body.coding) s.body x t.body)
-      (was_fault t.body.place why e (sym same ∙ is)) reads.answers in
+      let fault = read_fault told e (why, is, reads) same in
       record {
         steady = record {
           faults = OnlyInterrupts-one (faults_of (stream_in s)) (faults_of (stream_in t)) e interrupted fault.0.0;

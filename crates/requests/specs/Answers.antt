@@ -1,10 +1,10 @@
 -- What is answered to requests.
-use Rattle.std.specs.Prelude.{◌≡◌, ◌≢◌, ℕ, ◌+◌, ◌-◌, ◌^◌, ◌<◌, ◌≤◌, ◌⊎◌, ◌==◌, Bool, true, false, List, [], ◌∷◌, ◌++◌, All, length, Option, None, Some, Result, Ok, Err, MatchResult, IfErr, IfSome, IsErr, IsSome, IsTrue}
+use Rattle.std.specs.Prelude.{◌≡◌, ℕ, ◌+◌, ◌-◌, ◌^◌, ◌<◌, ◌≤◌, ◌⊎◌, ◌==◌, Bool, true, false, List, [], ◌∷◌, ◌++◌, All, length, Option, None, Some, Result, Ok, Err, MatchResult, IfErr, IfSome, IsErr, IsSome, IsTrue}
 use Rattle.std.specs.List.{prefix_len}
 use Rattle.std.specs.IoError.{error_kind}
 use Rattle.std.specs.declared.io.Error.{Error}
-use Rattle.std.specs.declared.io.ErrorKind.TheVariants.{Interrupted, Other}
-use Rattle.redux_buffer.specs.Faults.{FaultAfterInterrupts, OnlyInterrupts}
+use Rattle.std.specs.declared.io.ErrorKind.TheVariants.{Other}
+use Rattle.redux_buffer.specs.Faults.{FaultAfterInterrupts, interrupt_limit, IsInterrupt, OnlyInterrupts}
 use Rattle.buffer_redux.specs.Buffered.{Buffered}
 use Rattle.buffer_redux.specs.StreamLog.{StreamLog}
 use Rattle.buffer_redux.specs.Unbuffer.{StreamWent, Unbuffered, unbuffered}
@@ -138,9 +138,10 @@ IsPartTaken (Inside body) taken handed = (taken ≡ body.head ++ body.body.taken
     × IsHead usual body.head body.said × (body.body.coding ≡ coding_of usual body.said.extent)
     × IsBodyReader (body_rules body.body.coding) body.body
 
--- behind interruptions a read failed so
+-- behind interruptions a read failed so: it is one only where so many were met before
 abbrev pub FailsInRead : {S : Type 0} → Unbuffered S → Error → Unbuffered S → Type 0
-FailsInRead s e t = FaultAfterInterrupts (faults_of s) (faults_of t) e × (error_kind e ≢ Interrupted)
+FailsInRead s e t =
+    FaultAfterInterrupts (faults_of s) (faults_of t) e × (IsInterrupt e → interrupt_limit < length (faults_of t))
 
 -- with the interruptions that were met, these are more than are counted
 abbrev pub IsMany : {S : Type 0} → ℕ → Unbuffered S → Unbuffered S → Type 0

@@ -1,4 +1,5 @@
 pub mod Answers
 pub mod Large
+pub mod Rows
 pub mod Sending
 pub mod Texts

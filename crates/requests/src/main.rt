@@ -12,24 +12,27 @@
 #![tactic(auto)]
 
 mod limits;
+mod rows;
 mod taking;
 mod writing;
 
-ghost use Rattle.std.specs.Prelude.{◌≡◌, ◌≤◌, ℕ, true, false, [], IsTrue, IfOk, None, Ok, OnOk};
+ghost use Rattle.std.specs.Prelude.{◌≡◌, ◌<◌, ◌≤◌, ℕ, true, false, [], IsTrue, IfOk, None, Ok, OnOk, length};
 ghost use Rattle.std.specs.declared.io.Error.{Error};
-ghost use Rattle.redux_buffer.specs.Faults.{IsInterrupt};
+ghost use Rattle.redux_buffer.specs.Faults.{IsInterrupt, interrupt_limit};
 ghost use Rattle.buffer_redux.specs.Buffered.{Buffered};
 ghost use Rattle.buffer_redux.specs.declared.policy.StdPolicy.{StdPolicy};
 ghost use Rattle.codec.specs.NextPiece.{NextPiece};
-ghost use Rattle.codec.specs.PieceReader.{IsSettled, ReaderState, left_of};
+ghost use Rattle.codec.specs.PieceReader.{IsSettled, ReaderState, left_of, rest};
 ghost use Rattle.messages.specs.declared.head.Heads.{Heads};
 ghost use Rattle.messages.specs.Heads.{heads};
 ghost use Rattle.messages.specs.Limits.{usual};
 ghost use Rattle.messages.specs.Messages.{Begun, Enters, room_of, stop_answer};
 ghost use Rattle.requests.specs.Sending.{IsHeld, Prompt, SendsUnless};
-ghost use Rattle.requests.specs.Answers.{AnswersTurn, AwaitsHead, CallsFor, EndsSent, EndsUntaken, KeepsRoom, ServesRequests, ending_of, only_line_ends, room_at, sending_of, stream_in};
+ghost use Rattle.requests.specs.Answers.{AnswersTurn, AwaitsHead, CallsFor, EndsSent, EndsUntaken, KeepsRoom, ServesRequests, ending_of, only_line_ends, room_at, sending_of, stream_at, stream_in};
+ghost use Rattle.requests.specs.Rows.{IsRow, RowEnds, RowTurns};
 ghost use Rattle.requests.specs.Texts.{early_refusal, is_known};
 
+use crate::rows::{is_made_again, row_behind};
 use crate::taking::{Untaken, take_whole};
 use crate::writing::{
     Refusal, answer_whole, call_for_body, early_refusal, is_known, refusal_of, refuse, send_held,
@@ -74,11 +77,13 @@ fn serve<R: TellRead, W: TellWrite>(
     requires room { 65536 ≤ writer.old.block.capacity }
     requires limits { requests.decoder.0 ≡ usual }
     ensures room { room_at result.0 ≡ room_of requests.reader.block }
+    ensures few { RowEnds (left_of requests) 0 (stream_at result.0) }
     ensures serves { ServesRequests R.remaining W.log W.trace (left_of requests) writer.old result.0 result.1 writer.new }
 {
     let mut next = requests;
+    let mut row = 0;
     for _message in 0..u64::MAX {
-        match answer(next, writer) {
+        match answer(next, &mut row, writer) {
             Ok(behind) => {
                 next = behind;
             }
@@ -124,36 +129,48 @@ fn send_last<W: TellWrite>(ending: Ending, writer: &mut BufWriter<W>) -> io::Res
 // Answers one request, and goes on to the next. An `Err` is the end: there is none, or none may follow.
 fn answer<R: TellRead, W: TellWrite>(
     requests: Requests<R>,
+    row: &mut u32,
     writer: &mut BufWriter<W>,
 ) -> Result<Requests<R>, (Place<R>, Ending)>
     requires held { IsHeld writer.old }
     requires limits { requests.decoder.0 ≡ usual }
+    requires row { IsRow (left_of requests) row.old }
+    ensures row { RowTurns (left_of requests) row.old result row.new }
     ensures turns { AnswersTurn R.remaining W.log W.trace (left_of requests) writer.old result writer.new }
     ensures room { KeepsRoom (room_of requests.reader.block) result }
     ensures limits { IfOk result (λ next. next.decoder.0 ≡ usual) }
 {
     match requests.next_buffered() {
-        Ok(body) => answer_body(body, writer),
-        Err(requests) => answer_next(requests, writer),
+        Ok(body) => answer_body(body, row, writer),
+        Err(requests) => answer_next(requests, row, writer),
     }
 }
 
 // Answers a request whose head isn't buffered whole.
 fn answer_next<R: TellRead, W: TellWrite>(
     requests: Requests<R>,
+    row: &mut u32,
     writer: &mut BufWriter<W>,
 ) -> Result<Requests<R>, (Place<R>, Ending)>
     requires held { IsHeld writer.old }
     requires limits { requests.decoder.0 ≡ usual }
+    requires row { IsRow (left_of requests) row.old }
+    ensures row { RowTurns (left_of requests) row.old result row.new }
     ensures turns { AnswersTurn R.remaining W.log W.trace (left_of requests) writer.old result writer.new }
     ensures room { KeepsRoom (room_of requests.reader.block) result }
     ensures limits { IfOk result (λ next. next.decoder.0 ≡ usual) }
 {
     match send_to_ask(&requests, writer) {
-        Ok(()) => match requests.next() {
-            Ok(body) => answer_body(body, writer),
-            Err((requests, stop)) => stopped(requests, stop, writer),
-        },
+        Ok(()) => {
+            let had = requests.buffered().len() as u64;
+            match requests.next() {
+                Ok(body) => {
+                    *row = row_behind(*row, had, body.head().len() as u64);
+                    answer_body(body, row, writer)
+                }
+                Err((requests, stop)) => stopped(requests, stop, had, row, writer),
+            }
+        }
         Err(e) => Err((Place::Before(requests), Ending::Unsent(e))),
     }
 }
@@ -173,21 +190,27 @@ fn send_to_ask<R: TellRead, W: TellWrite>(
     send_held(writer)
 }
 
-// Refuses what is no request. A read that was interrupted is made again.
+// Refuses what is no request. A read that was interrupted is made again, where that is no more often in a row than the limit.
 fn stopped<R: TellRead, W: TellWrite>(
     requests: Requests<R>,
     stop: Stop,
+    had: u64,
+    row: &mut u32,
     writer: &mut BufWriter<W>,
 ) -> Result<Requests<R>, (Place<R>, Ending)>
     requires limits { requests.decoder.0 ≡ usual }
     ensures limits { IfOk result (λ next. next.decoder.0 ≡ usual) }
     ensures room { KeepsRoom (room_of requests.reader.block) result }
-    ensures turns { (s : ReaderState R Heads) (w : Buffered W StdPolicy) → s.ended ≡ false
+    ensures row { (s : ReaderState R Heads) → IsRow (left_of s) row.old → had ≡ length (rest s)
+        → NextPiece R.remaining (heads usual) s (stop_answer stop) requests → RowTurns (left_of s) row.old result row.new }
+    ensures turns { (s : ReaderState R Heads) (w : Buffered W StdPolicy) → s.ended ≡ false → IsRow (left_of s) row.old
         → NextPiece R.remaining (heads usual) s (stop_answer stop) requests
         → Prompt W.log W.trace AwaitsHead (left_of s, w) (Ok tt) (left_of requests, writer.old)
         → AnswersTurn R.remaining W.log W.trace (left_of s) w result writer.new }
 {
-    if is_interrupt(&stop) {
+    let before = row_behind(*row, had, requests.buffered().len() as u64);
+    if is_interrupt(&stop, before) {
+        *row = before + 1;
         return Ok(requests);
     }
     if is_blank_end(&stop, requests.buffered()) {
@@ -225,22 +248,25 @@ fn ending_of(sending: io::Result<()>) -> Ending
     }
 }
 
-fn is_interrupt(stop: &Stop) -> bool
-    ensures yes { result ≡ true → (e : Error) × (stop.now ≡ Stop.Io e) × IsInterrupt e }
-    ensures no { (e : Error) → stop.now ≡ Stop.Io e → IsInterrupt e → result ≡ true }
+fn is_interrupt(stop: &Stop, row: u32) -> bool
+    ensures yes { result ≡ true → (e : Error) × (stop.now ≡ Stop.Io e) × IsInterrupt e × (row < interrupt_limit) }
+    ensures no { (e : Error) → stop.now ≡ Stop.Io e → IsInterrupt e → row < interrupt_limit → result ≡ true }
 {
     match stop {
-        Stop::Io(e) => e.kind() == ErrorKind::Interrupted,
+        Stop::Io(e) => is_made_again(e, row),
         _ => false,
     }
 }
 
 fn answer_body<R: TellRead, W: TellWrite>(
     body: Body<R>,
+    row: &mut u32,
     writer: &mut BufWriter<W>,
 ) -> Result<Requests<R>, (Place<R>, Ending)>
     requires held { IsHeld writer.old }
     requires enters { Enters usual body }
+    requires row { IsRow (stream_in body) row.old }
+    ensures row { RowTurns (stream_in body) row.old result row.new }
     ensures limits { IfOk result (λ next. next.decoder.0 ≡ usual) }
     ensures room { KeepsRoom (room_of body.body.reader.block) result }
     ensures turns { (s : ReaderState R Heads) (w : Buffered W StdPolicy) → Begun R.remaining s body
@@ -255,7 +281,7 @@ fn answer_body<R: TellRead, W: TellWrite>(
             Err((Place::Inside(body), ending))
         }
         None => match call_for_body(known, said, writer) {
-            Ok(()) => answer_called(body, writer),
+            Ok(()) => answer_called(body, row, writer),
             Err(e) => Err((Place::Inside(body), Ending::Unsent(e))),
         },
     }
@@ -264,11 +290,14 @@ fn answer_body<R: TellRead, W: TellWrite>(
 // The same, where the body was called for. It goes on only where another request may follow.
 fn answer_called<R: TellRead, W: TellWrite>(
     body: Body<R>,
+    row: &mut u32,
     writer: &mut BufWriter<W>,
 ) -> Result<Requests<R>, (Place<R>, Ending)>
     requires held { IsHeld writer.old }
     requires enters { Enters usual body }
     requires open { early_refusal (is_known body.head) body.said ≡ None }
+    requires row { IsRow (stream_in body) row.old }
+    ensures row { RowTurns (stream_in body) row.old result row.new }
     ensures limits { IfOk result (λ next. next.decoder.0 ≡ usual) }
     ensures room { KeepsRoom (room_of body.body.reader.block) result }
     ensures turns { (s : ReaderState R Heads) (w : Buffered W StdPolicy) → Begun R.remaining s body
@@ -277,7 +306,7 @@ fn answer_called<R: TellRead, W: TellWrite>(
 {
     let said = body.said();
     let known = is_known(body.head());
-    match take_whole(body, writer) {
+    match take_whole(body, row, writer) {
         Ok((len, requests)) => match answer_whole(known, len, said, writer) {
             Ok(()) => {
                 if said.keeps {

@@ -9,15 +9,16 @@ ghost use Rattle.messages.specs.Limits.{usual};
 ghost use Rattle.messages.specs.Messages.{Enters, InsideGoes, body_rules, room_of};
 ghost use Rattle.requests.specs.Answers.{ReadsSome, ReadsSteadily, TakeFails, TakesWhole, sent_till, sent_with, stream_in};
 ghost use Rattle.requests.specs.Large.{AwaitsMore, IsAwaited, is_large};
+ghost use Rattle.requests.specs.Rows.{IsRow, RowEnds, RowOn, RowReads};
 ghost use Rattle.requests.specs.Sending.{IsHeld, Prompt, SendsUnless};
 
 use crate::limits::is_large;
+use crate::rows::{is_made_again, row_behind};
 use crate::writing::send_held;
 use buffer_redux::BufWriter;
 use buffer_redux::tell::{TellRead, TellWrite};
 use messages::{Body, BodyError, Requests};
 use std::io;
-use std::io::ErrorKind;
 
 // Why a body isn't taken whole.
 #[derive(Drop)]
@@ -32,13 +33,17 @@ pub enum Untaken {
     Many,
 }
 
-// Takes the whole body, and counts its payload.
+// Takes the whole body, and counts its payload. So many reads in a row were interrupted before.
 pub fn take_whole<R: TellRead, W: TellWrite>(
     body: Body<R>,
+    row: &mut u32,
     writer: &mut BufWriter<W>,
 ) -> Result<(u64, Requests<R>), (Body<R>, Untaken)>
     requires held { IsHeld writer.old }
     requires enters { Enters usual body }
+    requires row { IsRow (stream_in body) row.old }
+    ensures row { MatchResult result (λ r. RowOn (stream_in body) row.old (left_of r.1) row.new)
+        (λ e. RowEnds (stream_in body) row.old (stream_in e.0)) }
     ensures limits { IfOk result (λ r. r.1.decoder.0 ≡ usual) }
     ensures whole { IfOk result (λ r. TakesWhole R.remaining body (left_of r.1) r.0) }
     ensures steady { IfOk result (λ r. ReadsSteadily (stream_in body) (left_of r.1)) }
@@ -52,7 +57,7 @@ pub fn take_whole<R: TellRead, W: TellWrite>(
         (stream_in e.0, writer.new)) }
 {
     let mut body = body;
-    match payload_len(&mut body, writer) {
+    match payload_len(&mut body, row, writer) {
         Ok(len) => match body.finish() {
             Ok(requests) => Ok((len, requests)),
             // Nothing is asked for at the end of a body.
@@ -63,13 +68,16 @@ pub fn take_whole<R: TellRead, W: TellWrite>(
 }
 
 // How many bytes of payload the body has, of which all is read, unless it is too large. A read that was interrupted is made
-// again; any other failure is returned, so no answer counts a part of a body.
+// again, 64 times in a row; any other failure is returned, so no answer counts a part of a body.
 fn payload_len<R: TellRead, W: TellWrite>(
     body: &mut Body<R>,
+    row: &mut u32,
     writer: &mut BufWriter<W>,
 ) -> Result<u64, Untaken>
     requires held { IsHeld writer.old }
     requires enters { Enters usual body.old }
+    requires row { IsRow (stream_in body.old) row.old }
+    ensures row { RowReads (stream_in body.old) row.old result (stream_in body.new) row.new }
     ensures goes { (payload : List ℕ) × InsideGoes R.remaining body.old payload body.new }
     ensures many { IfOk result (λ len. len ≡ length (handed_of body.new.body)) }
     ensures fails { IfErr result (λ e. TakeFails (stream_in body.old) e body.new) }
@@ -86,7 +94,7 @@ fn payload_len<R: TellRead, W: TellWrite>(
         return Err(Untaken::Large);
     }
     for _read in 0..u64::MAX {
-        match read_on(body, &mut out, writer) {
+        match read_on(body, &mut out, row, writer) {
             Ok(count) => len += count as u64,
             Err(e) => return Err(e),
         }
@@ -104,11 +112,14 @@ fn payload_len<R: TellRead, W: TellWrite>(
 fn read_on<R: TellRead, W: TellWrite>(
     body: &mut Body<R>,
     out: &mut [u8],
+    row: &mut u32,
     writer: &mut BufWriter<W>,
 ) -> Result<usize, Untaken>
     requires room { 4096 ≤ length out.old }
     requires held { IsHeld writer.old }
     requires whole { IsBodyReader (body_rules body.old.body.coding) body.old.body }
+    requires row { IsRow (stream_in body.old) row.old }
+    ensures row { RowReads (stream_in body.old) row.old result (stream_in body.new) row.new }
     ensures bound { IfOk result (λ n. n ≤ length out.new) }
     ensures noted { IfOk result (λ n. 0 < n → body.new.body.calls.reads.latest ≡ take n out.new) }
     ensures goes { InsideGoes R.remaining body.old (handed_out out.new result) body.new }
@@ -125,14 +136,16 @@ fn read_on<R: TellRead, W: TellWrite>(
         return Ok(0);
     }
     match send_unless_shown(body, writer) {
-        Ok(()) => read(body, out),
+        Ok(()) => read(body, out, row),
         Err(e) => Err(Untaken::Unsent(e)),
     }
 }
 
-// Reads some payload, none where that is interrupted.
-fn read<R: TellRead>(body: &mut Body<R>, out: &mut [u8]) -> Result<usize, Untaken>
-    requires { 0 < length out.old }
+// Reads some payload, none where that is interrupted, and may be made again.
+fn read<R: TellRead>(body: &mut Body<R>, out: &mut [u8], row: &mut u32) -> Result<usize, Untaken>
+    requires some { 0 < length out.old }
+    requires row { IsRow (stream_in body.old) row.old }
+    ensures row { RowReads (stream_in body.old) row.old result (stream_in body.new) row.new }
     ensures bound { IfOk result (λ n. n ≤ length out.new) }
     ensures noted { IfOk result (λ n. 0 < n → body.new.body.calls.reads.latest ≡ take n out.new) }
     ensures goes { InsideGoes R.remaining body.old (handed_out out.new result) body.new }
@@ -144,10 +157,16 @@ fn read<R: TellRead>(body: &mut Body<R>, out: &mut [u8]) -> Result<usize, Untake
     ensures asks { (stream_in body.old).left ≡ [] → ¬ (TookWholeBody (body_rules body.old.body.coding) body.old.body)
         → (stream_in body.old).log.reads.asks < (stream_in body.new).log.reads.asks }
 {
+    let had = body.taken().saturating_add(body.buffered().len() as u64);
     match body.read(out) {
-        Ok(count) => Ok(count),
+        Ok(count) => {
+            *row = row_behind(*row, had, body.taken());
+            Ok(count)
+        }
         Err(BodyError::Io(e)) => {
-            if e.kind() == ErrorKind::Interrupted {
+            let before = row_behind(*row, had, body.taken());
+            if is_made_again(&e, before) {
+                *row = before + 1;
                 Ok(0)
             } else {
                 Err(Untaken::Body(BodyError::Io(e)))

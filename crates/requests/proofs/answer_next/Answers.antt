@@ -1,11 +1,15 @@
 -- Where no head is settled what is held is sent first, so the stream is asked with nothing held.
-use Rattle.std.proofs.Common.{true, [], Ok, None, sym, subst, inl, inr, refl}
-use Rattle.requests.proofs.Names.{All-nil, AwaitsHead, Before, KeepsRoom, left_of, MayFollow, Prompt, same_room, StreamWent-none, Unsent}
+use Rattle.std.proofs.Common.{true, [], Ok, None, ap, arith, length, sym, subst, inl, inr, refl}
+use Rattle.requests.proofs.Names.{All-nil, AwaitsHead, Before, Begun-went, KeepsRoom, left_of, MayFollow, Prompt, same_room, stream_in, StreamWent-none, Unsent}
 use Rattle.requests.proofs.Answering.{RunsToLast-one}
 use Rattle.requests.proofs.Coming.{comes, open_where, usually}
 use Rattle.requests.proofs.Reading.{begun_enters, none_met, steady_same}
 use Rattle.requests.proofs.Sending.{Prompt-held, Prompt-unsent}
+use Rattle.requests.proofs.RowLaws.{row_calm, row_turns}
+use Rattle.requests.specs.Rows.{RowOn}
+use Rattle.messages.specs.MessagesLaws.{Begun-gave}
 use Rattle.requests.proofs.answer_next.Goals as goal
+use Rattle.requests.proofs.answer_next.Goals.{After-row_behind}
 
 pub answer_body-requires-clause-held : goal.answer_body-requires-clause-held
 answer_body-requires-clause-held g c =
@@ -27,7 +31,7 @@ returns-in-Ok-next-clause-turns g c =
 pub returns-in-Err-next-clause-turns : goal.returns-in-Err-next-clause-turns
 returns-in-Err-next-clause-turns g c =
     let next = usually c.requires.limits c.in-Err-next.ensures.next in
-    c.stopped.ensures.turns c.args.requests c.args.writer.now c.in-Err-next.ensures.told next
+    c.stopped.ensures.turns c.args.requests c.args.writer.now c.in-Err-next.ensures.told c.requires.row next
     (comes c.args.requests c.args.writer.now
     c.send_to_ask.new.writer c.in-Ok.ensures _ c.in-Err-next.requests next)
 
@@ -50,3 +54,26 @@ returns-in-Err-next-clause-room g c =
     let went = c.in-Err-next.ensures.next.went in
     subst (λ r. KeepsRoom r c.stopped.result)
     (same_room c.in-Err-next.requests.reader.block c.args.requests.reader.block went.capacity went.limit) c.stopped.ensures.room
+
+-- how many were interrupted in a row behind the head
+behind : (g : _) (c : After-row_behind g)
+    → RowOn (left_of c.args.requests) c.args.row.now (stream_in c.in-Ok-next.body) c.row_behind.result
+behind g c =
+    let begun = c.in-Ok-next.ensures.next in
+    row_calm (Begun-went g.R.TellRead.remaining c.args.requests c.in-Ok-next.body begun).order c.requires.row _ _ _
+    c.row_behind.ensures.anew c.row_behind.ensures.on
+    (λ more. omega (arith, more, ap length c.buffered.ensures, ap length c.head.ensures))
+    (Begun-gave g.R.TellRead.remaining c.args.requests c.in-Ok-next.body begun).0
+
+pub answer_body-requires-clause-row : goal.answer_body-requires-clause-row
+answer_body-requires-clause-row g c = (behind g (goal.at.answer_body-requires-clause-row g c).After-row_behind).is
+
+pub returns-in-Ok-next-clause-row : goal.returns-in-Ok-next-clause-row
+returns-in-Ok-next-clause-row g c =
+    row_turns (behind g (goal.at.returns-in-Ok-next-clause-row g c).After-row_behind) c.answer_body.new.row
+    c.answer_body.result c.answer_body.ensures.row
+
+pub returns-in-Err-next-clause-row : goal.returns-in-Err-next-clause-row
+returns-in-Err-next-clause-row g c =
+    c.stopped.ensures.row c.args.requests c.requires.row (ap length c.buffered.ensures)
+    (usually c.requires.limits c.in-Err-next.ensures.next)

@@ -4,6 +4,7 @@ use Rattle.requests.proofs.Names.{Buffered, Enters, Error, AwaitsMore, handed_of
 use Rattle.messages.specs.declared.head.ParsedHead.{ParsedHead}
 use Rattle.requests.proofs.Large.{awaited, few_counted, tested, turns_large}
 use Rattle.requests.proofs.Reading.{TakeFails-after, inside_went, steadily, steady_same}
+use Rattle.requests.proofs.RowLaws.{row_ends, row_joins, row_over, row_still}
 use Rattle.requests.proofs.Sending.{Prompt-held, Prompt-none, Prompt-on}
 use Rattle.requests.proofs.taking.payload_len.Goals as goal
 
@@ -64,6 +65,7 @@ loop-read-init g c =
       payload = [];
       goes = InsideGoes-none g.R.TellRead.remaining b c.requires.enters.whole;
       many = sym (ap (λ x. length (handed_of x.body)) c.requires.enters.is);
+      row = row_still c.requires.row refl;
       steady = steady_same _ _ refl;
       turns = omega arith;
       writes = Prompt-none (IsAwaited b.said.extent) (stream_in b, c.args.writer.now);
@@ -93,6 +95,7 @@ loop-read-preserved g c =
       payload = before.payload ++ take count out;
       goes = InsideGoes-joins g.R.TellRead.remaining _ _ _ before.payload (take count out) before.goes read.goes;
       many = many_on out count before.many read.bound read.goes;
+      row = row_joins before.row read.row;
       steady = steadily before.steady read.reads.steady;
       turns = elim read.reads.more [
         | inl ended ↦ (let odd = c.is_done.ensures.ended.1 ended in absurd (cc))
@@ -175,3 +178,13 @@ returns-in-Err-clause-writes g c =
 
 pub read_on-requires-clause-whole : goal.read_on-requires-clause-whole
 read_on-requires-clause-whole g c = c.loop-read.invariant.goes.whole
+
+pub returns-then-is_large-2-clause-row : goal.returns-then-is_large-2-clause-row
+returns-then-is_large-2-clause-row g c =
+    row_ends c.loop-read.invariant.row (row_over c.in-Ok.ensures.row)
+
+pub returns-then-is_done-clause-row : goal.returns-then-is_done-clause-row
+returns-then-is_done-clause-row g c = row_joins c.loop-read.invariant.row c.in-Ok.ensures.row
+
+pub returns-in-Err-clause-row : goal.returns-in-Err-clause-row
+returns-in-Err-clause-row g c = row_ends c.loop-read.invariant.row c.in-Err.ensures.row

@@ -4,6 +4,7 @@ use Rattle.body_reader.specs.Between.{handed_out}
 use Rattle.requests.proofs.Names.{AwaitsMore, InBody, InsideGoes, InsideGoes-joins, Prompt, stream_in}
 use Rattle.requests.proofs.Coming.{NoneLeft, comes_inside, unsent_empty}
 use Rattle.requests.proofs.Reading.{fails_after, inside_went, reads_after, steady_same}
+use Rattle.requests.proofs.RowLaws.{row_over, row_reads, row_still}
 use Rattle.requests.proofs.Sending.{Prompt-read}
 use Rattle.requests.proofs.taking.read_on.Goals as goal
 
@@ -11,6 +12,20 @@ read_none : {R : Type 0} {remaining : R → Option (List ℕ)} {b m : InBody R} 
     → InsideGoes remaining b (take count out) m → InsideGoes remaining b [] m
 read_none {R} {remaining} {b} {m} out none goes =
     subst (λ l. InsideGoes remaining b l m) (ap (λ n. take n out) none) goes
+
+pub returns-then-count-gt0-clause-row : goal.returns-then-count-gt0-clause-row
+returns-then-count-gt0-clause-row g c = row_still c.requires.row c.read_buffered-count.ensures.unasked
+
+pub returns-then-is_done-clause-row : goal.returns-then-is_done-clause-row
+returns-then-is_done-clause-row g c = row_still c.requires.row c.read_buffered-count.ensures.unasked
+
+pub read-requires-clause-row : goal.read-requires-clause-row
+read-requires-clause-row g c =
+    (row_still {t = stream_in c.read_buffered-count.new.self} c.requires.row c.read_buffered-count.ensures.unasked).is
+
+pub returns-in-Err-clause-row : goal.returns-in-Err-clause-row
+returns-in-Err-clause-row g c =
+    row_over (row_still {t = stream_in c.read_buffered-count.new.self} c.requires.row c.read_buffered-count.ensures.unasked)
 
 pub returns-then-count-gt0-clause-writes : goal.returns-then-count-gt0-clause-writes
 returns-then-count-gt0-clause-writes g c =
@@ -44,6 +59,7 @@ returns-in-Ok g c =
     (subst (λ x. NoneLeft x m.body c.read_buffered-count.result (length out)) (sym none.reads.went.coding) none.reads.all)
     read.asked read.asks in
     record {
+      row = row_reads (row_still {t = stream_in m} c.requires.row none.unasked) (stream_in t) c.read.new.row c.read.result read.row;
       bound = read.bound;
       noted = read.noted;
       goes = InsideGoes-joins g.R.TellRead.remaining b m t [] (handed_out c.read.new.out c.read.result) goes read.goes;
