@@ -225,7 +225,8 @@ module _ {S : Type 0} (remaining : S → Option (List ℕ)) (s t : InBody S) (ou
 
   -- why it failed is why the whole isn't taken
   none_comes : (place : Side ℕ BodyPlace) (why : WhyNone)
-      → ((e : Error) → body_error place why ≡ Io e → IsInterrupt e → interrupt_limit ≤ length (faults_of (stream_in s))) → AsksFew (stream_in s) (stream_in t)
+      → ((e : Error) → body_error place why ≡ Io e → IsInterrupt e → interrupt_limit ≤ length (faults_of (stream_in s)))
+      → AsksFew (stream_in s) (stream_in t)
       → NoPayload (body_rules t.body.coding) s.body why t.body → TakeFails (stream_in s) (Body (body_error place why)) t
   none_comes place (unread.Wrong (side.First none) right) hard few fails =
       (few, none_met fails.1.faults, inl (refl, inl (side.First none, fails.2)))

@@ -59,7 +59,8 @@ returns-in-Ok g c =
     (subst (λ x. NoneLeft x m.body c.read_buffered-count.result (length out)) (sym none.reads.went.coding) none.reads.all)
     read.asked read.asks in
     record {
-      row = row_reads (row_still {t = stream_in m} c.requires.row none.unasked) (stream_in t) c.read.new.row c.read.result read.row;
+      row = row_reads (row_still {t = stream_in m} c.requires.row none.unasked) (stream_in t) c.read.new.row c.read.result
+          read.row;
       bound = read.bound;
       noted = read.noted;
       goes = InsideGoes-joins g.R.TellRead.remaining b m t [] (handed_out c.read.new.out c.read.result) goes read.goes;
