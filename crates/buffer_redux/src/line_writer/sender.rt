@@ -1,13 +1,14 @@
 //! A writer of lines that tells where a line isn't sent.
-ghost use Rattle.std.specs.Prelude.{◌≡◌, ◌<◌, [], ◌++◌, length, Ok, IfSome, OnOk};
+ghost use Rattle.std.specs.Prelude.{◌≡◌, ◌+◌, ◌*◌, ◌<◌, [], ◌++◌, length, Ok, IfErr, IfSome, OnOk};
 ghost use Rattle.std.specs.Io.{WritesAtMost};
 ghost use Rattle.std.specs.Io.KnownBytes.{Appends, Keeps, WriteAppends};
 ghost use Rattle.redux_buffer.specs.Block.{IsBlock};
+ghost use Rattle.redux_buffer.specs.Faults.{FaultsOften, FewFaults, IsInterrupt, interrupt_limit};
 ghost use Rattle.redux_buffer.specs.StreamLog.{portion};
 ghost use Rattle.buffer_redux.specs.BufWriter.{writer_contents, AllAlong, EmptyWriteCaused, WasFlushed, WriteErrorCaused, WriterKeeps, Writes, WritesInOrder, WritesSteadily};
 ghost use Rattle.buffer_redux.specs.LineWriter.{line_rules, SendsLines, ThenSendsLines};
 ghost use Rattle.buffer_redux.specs.ReadUntil.{Lacks};
-ghost use Rattle.buffer_redux.specs.WriteAll.{WritesAll};
+ghost use Rattle.buffer_redux.specs.WriteAll.{TookBeginning, WritesAll};
 ghost use Rattle.buffer_redux.specs.WriteFmt.{WritesText};
 
 use crate::line_writer::LineWriter;
@@ -120,6 +121,10 @@ impl<W: TellWrite> Write for LineSender<W> {
     #[inline(always)]
     fn write_all(&mut self, bytes: &[u8]) -> io::Result<()>
         ensures bytes { OnOk result (Appends (writer_contents self.old) (writer_contents self.new) bytes.now) }
+        ensures in_order { OnOk result (WritesInOrder self.old bytes.now self.new) }
+        ensures beginning { TookBeginning bytes.now self.old self.new }
+        ensures few { FewFaults ((interrupt_limit + 1) * length bytes.now + 1) self.old.log.writes self.new.log.writes }
+        ensures often { IfErr result (λ e. IsInterrupt e → FaultsOften self.old.log.writes self.new.log.writes) }
         ensures all { AllAlong W.log W.trace line_rules self.old bytes.now result self.new }
         ensures steps { ThenSendsLines W.log W.trace (WritesAll W.log W.trace line_rules self.old bytes.now)
             result self.new }
