@@ -1,49 +1,48 @@
 //! Playing a case of a bare buffer.
 use crate::case::{BufferCall, BufferCase};
-use crate::play::{Unplayed, counting, first_buffer, low_byte};
+use crate::play::{Source, Unplayed, counting, first_buffer, low_byte, source};
 use crate::print;
-use crate::watched::{Fault, Watched};
+use crate::watched::Fault;
 use buffer_redux::tell::{TellRead, Told};
 use buffer_redux::{Buffer, GrowError};
 use redux_play::play::ReaderAnswer;
-use redux_script::ScriptReader;
 use std::alloc::{AllocError, Global};
 
 /// Plays a case of a bare buffer, and returns the line that answers it.
 pub fn plays_bare(alloc: Global, case: &BufferCase) -> Result<String, Unplayed> {
     let mut buffer = first_buffer(alloc, case.storage)?;
-    let bytes = counting(alloc, low_byte(buffer.len()), case.source)?;
-    let source = ScriptReader::new(alloc, bytes.as_slice(), case.script.as_slice())?;
-    let mut source = Told::new(Watched::new(alloc, source, Fault::NONE));
+    let script = case.script.as_slice();
+    let source = source(alloc, buffer.len(), case.source, script, Fault::NONE)?;
     let mut text = String::new(alloc);
-    let mut next = low_byte(buffer.len());
-    for call in case.calls.as_slice() {
-        let pushed = pushed(alloc, *call, &mut next)?;
-        let answer = answer(&mut buffer, *call, &mut source, pushed.as_slice());
-        text.push_str(print::reader_word(alloc, answer)?.as_str())?;
-        text.push_str(" ")?;
-    }
-    print::push_state(&mut text, &buffer, source.get_ref().notes())?;
+    push_line(&mut text, alloc, case, &mut buffer, &mut Told::new(source))?;
     Ok(text)
 }
 
-// What a push has to push: what counts up goes on from one to the next.
-fn pushed(alloc: Global, call: BufferCall, next: &mut u8) -> Result<Vec<u8>, AllocError> {
-    let BufferCall::Push(n) = call else {
-        return Ok(Vec::new(alloc));
-    };
-    let first = *next;
-    *next = first.wrapping_add(low_byte(n));
-    counting(alloc, first, n)
+fn push_line(
+    text: &mut String,
+    alloc: Global,
+    case: &BufferCase,
+    buffer: &mut Buffer,
+    source: &mut Told<Source>,
+) -> Result<(), AllocError> {
+    let mut next = low_byte(buffer.len());
+    for call in case.calls.as_slice() {
+        let answer = answer(alloc, buffer, *call, source, &mut next)?;
+        text.push_str(print::reader_word(alloc, answer)?.as_str())?;
+        text.push_str(" ")?;
+    }
+    print::push_state(text, buffer, source.get_ref().notes())
 }
 
+// What a push pushes counts up, from one to the next.
 fn answer<R: TellRead>(
+    alloc: Global,
     buffer: &mut Buffer,
     call: BufferCall,
     source: &mut R,
-    pushed: &[u8],
-) -> ReaderAnswer {
-    match call {
+    next: &mut u8,
+) -> Result<ReaderAnswer, AllocError> {
+    Ok(match call {
         BufferCall::ReadFrom => match buffer.read_from(source) {
             Ok(count) => ReaderAnswer::Count(count),
             Err(e) => ReaderAnswer::Fault(e.kind()),
@@ -58,10 +57,14 @@ fn answer<R: TellRead>(
             ReaderAnswer::Done
         }
         BufferCall::Reserve(n) => granted(buffer.reserve(n)),
-        BufferCall::Push(_) => granted(buffer.push_bytes(pushed)),
+        BufferCall::Push(n) => {
+            let pushed = counting(alloc, *next, n)?;
+            *next = next.wrapping_add(low_byte(n));
+            granted(buffer.push_bytes(pushed.as_slice()))
+        }
         BufferCall::SetLimit(limit) => granted(buffer.set_limit(limit)),
         BufferCall::Limit => ReaderAnswer::Count(buffer.limit()),
-    }
+    })
 }
 
 fn granted(answer: Result<(), GrowError>) -> ReaderAnswer {

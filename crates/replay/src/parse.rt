@@ -82,7 +82,7 @@ pub fn case(alloc: Global, line: &str) -> Result<Case, Unread<'_>> {
             prints_bytes,
             source: count,
             script: answers(alloc, script)?,
-            calls: reader_calls(alloc, calls)?,
+            calls: words(alloc, calls)?,
         }))),
         // A writer has no source.
         Stream::Writer(_, _) if count > 0 => Err(Unread::Source(source)),
@@ -92,7 +92,7 @@ pub fn case(alloc: Global, line: &str) -> Result<Case, Unread<'_>> {
                 storage,
                 rule,
                 script: answers(alloc, script)?,
-                calls: writer_calls(alloc, calls)?,
+                calls: words(alloc, calls)?,
                 unwraps,
             })))
         }
@@ -100,7 +100,7 @@ pub fn case(alloc: Global, line: &str) -> Result<Case, Unread<'_>> {
             storage,
             source: count,
             script: answers(alloc, script)?,
-            calls: buffer_calls(alloc, calls)?,
+            calls: words(alloc, calls)?,
         })),
     }
 }
@@ -221,43 +221,52 @@ fn writer_rule(words: &[&str]) -> Option<WriterRule> {
     }
 }
 
-// Adds what a word stands for, if it does.
-fn add<'a, T: Drop>(
-    list: &mut Vec<T>,
-    item: Option<T>,
-    unread: Unread<'a>,
-) -> Result<(), Unread<'a>> {
-    match item {
-        Some(item) => Ok(list.push(item)?),
-        None => Err(unread),
+// What a word stands for, or why that can't be told.
+trait Word: Drop + Sized {
+    fn read(alloc: Global, word: &str) -> Result<Self, Unread<'_>>;
+}
+
+impl Word for Answer {
+    fn read(_alloc: Global, word: &str) -> Result<Self, Unread<'_>> {
+        answer(word).ok_or(Unread::Answer(word))
     }
+}
+
+impl Word for ReaderWord {
+    fn read(_alloc: Global, word: &str) -> Result<Self, Unread<'_>> {
+        reader_call(word).ok_or(Unread::Call(word))
+    }
+}
+
+impl Word for BufferCall {
+    fn read(_alloc: Global, word: &str) -> Result<Self, Unread<'_>> {
+        buffer_call(word).ok_or(Unread::Call(word))
+    }
+}
+
+impl Word for WriterWord {
+    fn read(alloc: Global, word: &str) -> Result<Self, Unread<'_>> {
+        match word.strip_prefix('w') {
+            Some(digits) => match hex_bytes(alloc, digits)? {
+                Some(bytes) => Ok(WriterWord::WriteThese(bytes)),
+                None => Err(Unread::Call(word)),
+            },
+            None => writer_call(word).ok_or(Unread::Call(word)),
+        }
+    }
+}
+
+fn words<T: Word>(alloc: Global, text: &str) -> Result<Vec<T>, Unread<'_>> {
+    let mut all = Vec::new(alloc);
+    for word in text.split_whitespace() {
+        all.push(T::read(alloc, word)?)?;
+    }
+    Ok(all)
 }
 
 // What the stream inside answers; `-` is nothing.
 fn answers(alloc: Global, text: &str) -> Result<Vec<Answer>, Unread<'_>> {
-    let mut answers = Vec::new(alloc);
-    if text != "-" {
-        for word in text.split_whitespace() {
-            add(&mut answers, answer(word), Unread::Answer(word))?;
-        }
-    }
-    Ok(answers)
-}
-
-fn reader_calls(alloc: Global, text: &str) -> Result<Vec<ReaderWord>, Unread<'_>> {
-    let mut calls = Vec::new(alloc);
-    for word in text.split_whitespace() {
-        add(&mut calls, reader_call(word), Unread::Call(word))?;
-    }
-    Ok(calls)
-}
-
-fn buffer_calls(alloc: Global, text: &str) -> Result<Vec<BufferCall>, Unread<'_>> {
-    let mut calls = Vec::new(alloc);
-    for word in text.split_whitespace() {
-        add(&mut calls, buffer_call(word), Unread::Call(word))?;
-    }
-    Ok(calls)
+    words(alloc, if text == "-" { "" } else { text })
 }
 
 // The calls without an `into_inner` behind them, and whether there is one.
@@ -266,20 +275,4 @@ fn unwrapping(text: &str) -> (&str, bool) {
         Some(calls) if calls.is_empty() || calls.ends_with(' ') => (calls, true),
         _ => (text, false),
     }
-}
-
-fn writer_calls(alloc: Global, text: &str) -> Result<Vec<WriterWord>, Unread<'_>> {
-    let mut calls = Vec::new(alloc);
-    for word in text.split_whitespace() {
-        calls.push(writer_word(alloc, word)?)?;
-    }
-    Ok(calls)
-}
-
-fn writer_word(alloc: Global, word: &str) -> Result<WriterWord, Unread<'_>> {
-    if let Some(digits) = word.strip_prefix('w') {
-        let bytes = hex_bytes(alloc, digits)?.ok_or(Unread::Call(word))?;
-        return Ok(WriterWord::WriteThese(bytes));
-    }
-    writer_call(word).ok_or(Unread::Call(word))
 }

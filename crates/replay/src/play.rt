@@ -4,9 +4,10 @@ ghost use Rattle.replay.specs.Answers.{CountsUp};
 
 use crate::case::{Kind, Storage, StreamCase};
 use crate::reading::reads;
-use crate::watched::Fault;
+use crate::watched::{Fault, Watched};
 use crate::writing::writes;
 use buffer_redux::{Buffer, GrowError};
+use redux_script::{Answer, ScriptReader};
 use std::alloc::{AllocError, AllocFailed, Global};
 use std::io::ErrorKind;
 
@@ -94,6 +95,22 @@ pub fn first_buffer(alloc: Global, storage: Storage) -> Result<Buffer, Unplayed>
     }
     let _ = buffer.copy_from_slice(held.as_slice());
     Ok(buffer)
+}
+
+/// What gives the bytes of a case.
+pub type Source = Watched<ScriptReader>;
+
+/// One of `count` bytes, which count on from what is held, and of which one call may go wrong.
+pub fn source(
+    alloc: Global,
+    held: usize,
+    count: usize,
+    script: &[Answer],
+    fault: Fault,
+) -> Result<Source, AllocError> {
+    let bytes = counting(alloc, low_byte(held), count)?;
+    let source = ScriptReader::new(alloc, bytes.as_slice(), script)?;
+    Ok(Watched::new(alloc, source, fault))
 }
 
 /// These bytes, and then what is buffered.

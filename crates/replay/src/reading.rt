@@ -1,20 +1,17 @@
 //! Playing a case of a reader.
 use crate::case::{Foreign, ReaderCase, ReaderRule, ReaderWord};
-use crate::play::{Outcome, Unplayed, counting, first_buffer, is_refusal, joined, low_byte};
+use crate::play::{Outcome, Source, Unplayed, counting, first_buffer, is_refusal, joined, source};
 use crate::print;
-use crate::watched::{Fault, Watched};
+use crate::watched::Fault;
 use buffer_redux::policy::{MinBuffered, ReaderPolicy, StdPolicy};
 use buffer_redux::tell::{TellRead, Told};
 use buffer_redux::{BufReader, Buffer};
 use redux_play::play::{ReaderAnswer, ReaderCall, ReaderRun, play_reader};
-use redux_script::ScriptReader;
 use std::alloc::{AllocError, Global};
 use std::io::{BufRead, ErrorKind};
 use tests_common::claims::{Halves, Header};
 use tests_common::constant::{Always, Never};
 use tests_common::policies::{Copying, FailsAt, Fickle, Greedy, Growing, Limiting, Tidy};
-
-type Source = Watched<ScriptReader>;
 
 // What the calls did, and what the fills lent, one behind another.
 #[derive(Drop)]
@@ -76,20 +73,9 @@ fn reader(
     fault: Fault,
 ) -> Result<BufReader<Told<Source>>, Unplayed> {
     let buffer = first_buffer(alloc, case.storage)?;
-    let source = source(alloc, case, buffer.len(), fault)?;
+    let script = case.script.as_slice();
+    let source = source(alloc, buffer.len(), case.source, script, fault)?;
     Ok(BufReader::with_buffer(buffer, Told::new(source)))
-}
-
-// What the source gives counts on from what is held.
-fn source(
-    alloc: Global,
-    case: &ReaderCase,
-    held: usize,
-    fault: Fault,
-) -> Result<Source, AllocError> {
-    let bytes = counting(alloc, low_byte(held), case.source)?;
-    let source = ScriptReader::new(alloc, bytes.as_slice(), case.script.as_slice())?;
-    Ok(Watched::new(alloc, source, fault))
 }
 
 fn under_rule<R: TellRead + Drop>(
@@ -99,8 +85,8 @@ fn under_rule<R: TellRead + Drop>(
     record: &mut Record,
 ) -> Result<(R, Buffer), AllocError> {
     match case.rule {
-        ReaderRule::Std => played(alloc, reader, case, record),
-        ReaderRule::Min(n) => under(alloc, reader, MinBuffered(n), case, record),
+        ReaderRule::Std => played(alloc, reader, StdPolicy, case, record),
+        ReaderRule::Min(n) => played(alloc, reader, MinBuffered(n), case, record),
         ReaderRule::Foreign(policy) => under_foreign(alloc, reader, policy, case, record),
     }
 }
@@ -113,39 +99,30 @@ fn under_foreign<R: TellRead + Drop>(
     record: &mut Record,
 ) -> Result<(R, Buffer), AllocError> {
     match policy {
-        Foreign::Greedy => under(alloc, reader, Greedy, case, record),
-        Foreign::Never => under(alloc, reader, Never, case, record),
-        Foreign::Always => under(alloc, reader, Always, case, record),
-        Foreign::TooMuch => played(alloc, reader, case, record),
-        Foreign::Tidy(min) => under(alloc, reader, Tidy(MinBuffered(min)), case, record),
-        Foreign::Growing => under(alloc, reader, Growing, case, record),
-        Foreign::Limiting(limit) => under(alloc, reader, Limiting(limit), case, record),
-        Foreign::Fickle => under(alloc, reader, Fickle { asked: 0 }, case, record),
-        Foreign::Header => under(alloc, reader, Header, case, record),
-        Foreign::Halves => under(alloc, reader, Halves, case, record),
-        Foreign::Copying => under(alloc, reader, Copying::new(alloc), case, record),
-        Foreign::FailsAt(question) => under(alloc, reader, FailsAt::new(question), case, record),
+        Foreign::Greedy => played(alloc, reader, Greedy, case, record),
+        Foreign::Never => played(alloc, reader, Never, case, record),
+        Foreign::Always => played(alloc, reader, Always, case, record),
+        Foreign::TooMuch => played(alloc, reader, StdPolicy, case, record),
+        Foreign::Tidy(min) => played(alloc, reader, Tidy(MinBuffered(min)), case, record),
+        Foreign::Growing => played(alloc, reader, Growing, case, record),
+        Foreign::Limiting(limit) => played(alloc, reader, Limiting(limit), case, record),
+        Foreign::Fickle => played(alloc, reader, Fickle { asked: 0 }, case, record),
+        Foreign::Header => played(alloc, reader, Header, case, record),
+        Foreign::Halves => played(alloc, reader, Halves, case, record),
+        Foreign::Copying => played(alloc, reader, Copying::new(alloc), case, record),
+        Foreign::FailsAt(question) => played(alloc, reader, FailsAt::new(question), case, record),
     }
 }
 
-// Plays the calls under a policy. It stands apart, so that the choice of one drops nothing.
-fn under<R: TellRead + Drop, P: ReaderPolicy + SetMin + Drop>(
+// Plays the calls under a policy, and takes the reader apart.
+fn played<R: TellRead + Drop, P: ReaderPolicy + SetMin + Drop>(
     alloc: Global,
     reader: BufReader<R>,
     policy: P,
     case: &ReaderCase,
     record: &mut Record,
 ) -> Result<(R, Buffer), AllocError> {
-    played(alloc, reader.set_policy(policy), case, record)
-}
-
-// Plays the calls, and takes the reader apart.
-fn played<R: TellRead + Drop, P: ReaderPolicy + SetMin + Drop>(
-    alloc: Global,
-    mut reader: BufReader<R, P>,
-    case: &ReaderCase,
-    record: &mut Record,
-) -> Result<(R, Buffer), AllocError> {
+    let mut reader = reader.set_policy(policy);
     plays_words(alloc, &mut reader, case, record)?;
     Ok(reader.into_inner_with_buffer())
 }
@@ -228,8 +205,10 @@ fn outcome(
     source: &Source,
     buffer: &Buffer,
 ) -> Result<Outcome, AllocError> {
+    let mut line = String::new(alloc);
+    push_line(&mut line, alloc, case, record, source, buffer)?;
     Ok(Outcome {
-        line: line(alloc, case, record, source, buffer)?,
+        line,
         calls: source.notes().len(),
         joined: joined(alloc, record.run.handed.as_slice(), buffer)?,
         whole: counting(alloc, 0, held.saturating_add(source.inside().served()))?,
@@ -238,28 +217,28 @@ fn outcome(
     })
 }
 
-fn line(
+fn push_line(
+    text: &mut String,
     alloc: Global,
     case: &ReaderCase,
     record: &Record,
     source: &Source,
     buffer: &Buffer,
-) -> Result<String, AllocError> {
-    let mut text = String::new(alloc);
+) -> Result<(), AllocError> {
     let mut shown = record.shown.as_slice();
     for answer in record.run.answers.as_slice() {
         text.push_str(print::reader_word(alloc, *answer)?.as_str())?;
         if case.prints_bytes {
-            push_shown(&mut text, *answer, &mut shown)?;
+            push_shown(text, *answer, &mut shown)?;
         }
         text.push_str(" ")?;
     }
-    print::push_state(&mut text, buffer, source.notes())?;
+    print::push_state(text, buffer, source.notes())?;
     if case.prints_bytes {
         text.push_str(" | ")?;
-        print::push_bytes(&mut text, record.run.handed.as_slice())?;
+        print::push_bytes(text, record.run.handed.as_slice())?;
     }
-    Ok(text)
+    Ok(())
 }
 
 // Adds the bytes that were shown, the first of these, and takes them off.

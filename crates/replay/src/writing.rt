@@ -159,7 +159,14 @@ fn outcome(
     buffer: &Buffer,
 ) -> Result<Outcome, AllocError> {
     let joined = joined(alloc, target.inside().taken(), buffer)?;
-    let line = line(alloc, record.run.answers.as_slice(), target, buffer)?;
+    let mut line = String::new(alloc);
+    push_line(
+        &mut line,
+        alloc,
+        record.run.answers.as_slice(),
+        target,
+        buffer,
+    )?;
     Ok(Outcome {
         line,
         calls: target.notes().len(),
@@ -380,19 +387,18 @@ impl Record {
     }
 }
 
-fn line(
+fn push_line(
+    text: &mut String,
     alloc: Global,
     answers: &[WriterAnswer],
     target: &Target,
     buffer: &Buffer,
-) -> Result<String, AllocError> {
-    let mut text = String::new(alloc);
+) -> Result<(), AllocError> {
     for answer in answers {
         text.push_str(print::writer_word(alloc, *answer)?.as_str())?;
         text.push_str(" ")?;
     }
-    print::push_state(&mut text, buffer, target.notes())?;
+    print::push_state(text, buffer, target.notes())?;
     text.push_str(" | ")?;
-    print::push_bytes(&mut text, target.inside().taken())?;
-    Ok(text)
+    print::push_bytes(text, target.inside().taken())
 }
