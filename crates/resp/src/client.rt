@@ -1,16 +1,8 @@
 //! A client, and the store that outlives it.
-ghost use Rattle.std.specs.Prelude.{◌≡◌, Bool, [], IfErr, IfOk, IsTrue, MatchBool, Ok, Err, OnOk, false};
-ghost use Rattle.codec.specs.Answering.{NeverFails};
+ghost use Rattle.std.specs.Prelude.{◌≡◌, [], IfErr, IfOk, IsTrue, OnOk, false};
 ghost use Rattle.codec.specs.PieceReader.{IsFresh};
-ghost use Rattle.std.specs.declared.io.Error.{Error};
-ghost use Rattle.buffer_redux.specs.BufWriter.{WasFlushed};
-ghost use Rattle.buffer_redux.specs.Faults.{interrupt_limit};
-ghost use Rattle.codec.specs.declared.serving.ServeError.TheVariants.{Flush};
-ghost use Rattle.codec.specs.declared.serving.Served.TheVariants as served;
-ghost use Rattle.codec.specs.Serving.{Serves, ServingFails, server};
-ghost use Rattle.decoders.specs.Resp.{resp, resp_item};
-ghost use Rattle.resp.specs.Clients.{IsWithin, MayLackReply, begun_of, closed_behind, closed_of, ends_as, pieces_of, serving, tells_closed};
-ghost use Rattle.resp.specs.Sessions.{RepliesBy, session_of};
+ghost use Rattle.decoders.specs.Resp.{resp};
+ghost use Rattle.resp.specs.Clients.{IsWithin, MayLackReply, ServesClient, ServesOpen, begun_of, closed_behind, closed_of, ends_as, pieces_of, tells_closed};
 ghost use Rattle.resp.specs.Waiting.{nothing};
 ghost use Rattle.resp.specs.declared.client.Ending.TheVariants as ending;
 
@@ -101,16 +93,8 @@ impl<R: TellRead> Client<R> {
         ensures closes { IfOk result (λ answer. closed_of self.new ≡ tells_closed answer) }
         ensures missing { IfErr result (λ e. MayLackReply e → IsTrue (closed_of self.new)) }
         ensures within { IfOk result (λ ending. IsWithin (begun_of self.new) ending) }
-        ensures served { IfOk result (λ ending. MatchBool (closed_of self.old)
-            (WasFlushed W.log W.trace replies.old (Ok tt) replies.new)
-            (Serves interrupt_limit R.remaining W.log W.trace (resp (pieces_of self.old).decoder.max) resp_item RepliesBy
-            (serving self.old store.old replies.old) (ends_as ending) (serving self.new store.new replies.new))) }
-        ensures failed { IfErr result (λ e. MatchBool (closed_of self.old)
-            ((why : Error) × (e ≡ Flush served.Closed why) × WasFlushed W.log W.trace replies.old (Err why) replies.new)
-            ((left : Bool) × (closed_of self.new ≡ closed_behind e left)
-            × ServingFails interrupt_limit R.remaining W.log W.trace (resp (pieces_of self.old).decoder.max) resp_item RepliesBy
-            NeverFails (serving self.old store.old replies.old) e
-            (server (pieces_of self.new) (session_of self.new.alloc (begun_of self.new) store.new left) replies.new))) }
+        ensures serves { ServesClient R.remaining W.log W.trace self.old store.old replies.old result self.new store.new
+            replies.new }
     {
         if self.closed {
             return match replies.flush() {
@@ -127,18 +111,10 @@ impl<R: TellRead> Client<R> {
         store: &mut Store,
         replies: &mut BufWriter<W>,
     ) -> Result<Ending, ServeError<EitherWrong<HeaderError, Unended<TooLong>>, Infallible>>
+        requires open { closed_of self.old ≡ false }
         ensures flushed { OnOk result (replies.new.block.bytes ≡ []) }
-        ensures closes { IfOk result (λ answer. closed_of self.new ≡ tells_closed answer) }
-        ensures within { IfOk result (λ ending. IsWithin (begun_of self.new) ending) }
-        ensures served { IfOk result (λ ending. Serves interrupt_limit R.remaining W.log W.trace
-            (resp (pieces_of self.old).decoder.max) resp_item RepliesBy
-            (server (pieces_of self.old) (session_of self.old.alloc self.old.request store.old false) replies.old)
-            (ends_as ending) (serving self.new store.new replies.new)) }
-        ensures failed { IfErr result (λ e. (left : Bool) × (closed_of self.new ≡ closed_behind e left)
-            × ServingFails interrupt_limit R.remaining W.log W.trace (resp (pieces_of self.old).decoder.max) resp_item RepliesBy
-            NeverFails
-            (server (pieces_of self.old) (session_of self.old.alloc self.old.request store.old false) replies.old) e
-            (server (pieces_of self.new) (session_of self.new.alloc (begun_of self.new) store.new left) replies.new)) }
+        ensures serves { ServesOpen R.remaining W.log W.trace self.old store.old replies.old result self.new store.new
+            replies.new }
     {
         let request = mem::replace(&mut self.request, Request::new(self.alloc));
         let values = mem::replace(store, Store::new(self.alloc, 0));
