@@ -3,39 +3,70 @@
 //! ends within a request.
 #![tactic(auto)]
 
-ghost use Rattle.std.specs.Prelude.{◌≡◌, [], OnOk};
+ghost use Rattle.std.specs.Prelude.{◌≡◌, [], IfOk, OnOk};
+ghost use Rattle.buffer_redux.specs.BufWriter.{AllFlushed};
+ghost use Rattle.buffer_redux.specs.Policy.{std_write_rules};
+ghost use Rattle.resp_server.specs.Server.{ServesOnce, tells_within, was_cut_off};
 
 use buffer_redux::BufWriter;
 use buffer_redux::tell::{TellRead, TellWrite, Told};
-use codec::{EitherWrong, HeaderError, ServeError, Unended};
+use codec::{EitherWrong, HeaderError, ServeError, TooLong, Unended};
 use resp::{Client, Ending, PROTOCOL_ERROR, Store};
 use std::io;
 use std::io::Write;
 use std::process::ExitCode;
 
-// Answers a client, and says whether its stream ended within a request.
+// Answers a client by one call, and says whether its stream ended within a request.
 fn serve<R: TellRead, W: TellWrite>(
     client: &mut Client<R>,
     store: &mut Store,
     replies: &mut BufWriter<W>,
 ) -> io::Result<bool>
     ensures sent { OnOk result (replies.new.block.bytes ≡ []) }
+    ensures serves { ServesOnce R.remaining W.log W.trace PROTOCOL_ERROR.now client.old store.old replies.old result client.new
+        store.new replies.new }
 {
-    let cut = match client.serve(store, replies) {
-        Ok(ending) => return Ok(ending == Ending::Within),
-        Err(ServeError::Read(e)) => return Err(e),
-        Err(ServeError::Write(e)) => return Err(e),
-        Err(ServeError::Flush(_ended, e)) => return Err(e),
+    match client.serve(store, replies) {
+        Ok(ending) => Ok(is_within(ending)),
+        Err(ServeError::Read(e)) => Err(e),
+        Err(ServeError::Write(e)) => Err(e),
+        Err(ServeError::Flush(_ended, e)) => Err(e),
         Err(ServeError::Failed(never)) => match never {},
-        Err(ServeError::Wrong(EitherWrong::One(HeaderError::Truncated(_)))) => true,
-        Err(ServeError::Wrong(EitherWrong::Other(Unended::Cut(_)))) => true,
-        Err(ServeError::Wrong(_)) => false,
-    };
-    if !cut {
-        replies.write_all(PROTOCOL_ERROR)?;
+        Err(ServeError::Wrong(wrong)) => {
+            if is_cut_off(&wrong) {
+                return tell(replies, b"", true);
+            }
+            tell(replies, PROTOCOL_ERROR, false)
+        }
     }
+}
+
+// Whether a stream ended within a request.
+fn is_within(ending: Ending) -> bool
+    ensures { result ≡ tells_within ending }
+{
+    matches!(ending, Ending::Within)
+}
+
+// Whether a stream ended within a piece.
+fn is_cut_off(wrong: &EitherWrong<HeaderError, Unended<TooLong>>) -> bool
+    ensures { result ≡ was_cut_off wrong.now }
+{
+    match wrong {
+        EitherWrong::One(HeaderError::Truncated(_)) => true,
+        EitherWrong::Other(Unended::Cut(_)) => true,
+        _ => false,
+    }
+}
+
+// Sends these bytes behind all others, and answers as it is told to.
+fn tell<W: TellWrite>(replies: &mut BufWriter<W>, line: &[u8], answer: bool) -> io::Result<bool>
+    ensures answer { IfOk result (λ said. said ≡ answer) }
+    ensures all { AllFlushed W.log W.trace std_write_rules replies.old line.now result replies.new }
+{
+    replies.write_all(line)?;
     replies.flush()?;
-    Ok(cut)
+    Ok(answer)
 }
 
 fn main(rt: HostRuntime) -> io::Result<ExitCode> {
