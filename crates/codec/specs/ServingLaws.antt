@@ -110,8 +110,8 @@ module _ {S D W I A T P : Type 0} (limit : ℕ) (remaining : S → Option (List 
       flushed_so served.End exchanges more m t (one, took) is = elim took.fetched.first [
         | inl same ↦ absurd (omega (
           arith,
-          MetEnd-once m.pieces t.pieces (untold m.pieces.ended is)
-              (StepRetried-met remaining g m.pieces t.pieces limit (Ok None) took.fetched.steps took.fetched.steps.next.answers.4),
+          MetEnd-once m.pieces t.pieces (untold m.pieces.ended is) (StepRetried-met remaining g m.pieces t.pieces limit (Ok None)
+              took.fetched.steps took.fetched.steps.next.answers.4),
           ap (λ l. l.reads.zero_reads) same.1,
         ))
         | inr flushed ↦ flushed.1

@@ -70,9 +70,9 @@ returns-in_err-turn-clause-failed g c =
     let m = server c.loop-turn.reader c.loop-turn.service c.loop-turn.writer in
     let t = server c.turn.new.reader c.turn.new.service c.turn.new.writer in
     let before = c.loop-turn.invariant in
-    let failed = subst (λ d. ServesTurn c.args.limit g.R.TellRead.remaining g.W.Tell.log g.W.TellWrite.trace (g.D.Decoder.grammar d)
-    (g.D.Items.item_of d) g.S.Service.answers g.S.Service.fails m (Err c.in_err-turn.field-0.0) t) before.decoder
-    c.in_err-turn.ensures in
+    let failed = subst (λ d. ServesTurn c.args.limit g.R.TellRead.remaining g.W.Tell.log g.W.TellWrite.trace
+    (g.D.Decoder.grammar d) (g.D.Items.item_of d) g.S.Service.answers g.S.Service.fails m (Err c.in_err-turn.field-0.0) t)
+    before.decoder c.in_err-turn.ensures in
     rw (p.1, p.2) (stops _ _ _ _ _ _ _ _ g.met.W.TellWrite.trace_none g.met.W.TellWrite.trace_joins _ before.exchanges true m
     before.talked c.in_err-turn.field-0.0 t
     (turn_failed_so _ _ _ _ _ _ _ _ before.exchanges m t c.in_err-turn.field-0.0 failed))
