@@ -2,7 +2,6 @@
 use Rattle.std.proofs.Common.{◌-◌, Err, None, Ok, Some, ap, drop, subst, take, ◌∙◌}
 use Rattle.buffer_redux.specs.Unbuffer.{HandsOutInOrder}
 use Rattle.buffer_redux.specs.UnbufferLaws.{HandsOutInOrder-same}
-use Rattle.piece_reader.specs.declared.error.NextError.TheVariants.{Wrong}
 use Rattle.piece_reader.specs.NextPiece.{NextPiece, load_answer}
 use Rattle.piece_reader.specs.NextPieceLaws.{NextPiece-kept}
 use Rattle.piece_reader.specs.PieceReader.{left_of}
@@ -108,10 +107,6 @@ returns-in-Wrong-clause-next g c =
           c.in-Wrong.e c.in-Wrong.ensures.takes.0 c.in-Wrong.ensures.takes.1 c.take.ensures.before;
       says = tt;
     }
-
-pub returns-in-Wrong-clause-kept : goal.returns-in-Wrong-clause-kept
-returns-in-Wrong-clause-kept g c =
-    NextPiece-kept _ _ _ _ (Err (Wrong c.in-Wrong.e)) (returns-in-Wrong-clause-next g c).next
 
 pub returns-in-Ok-Some-clause-looked : goal.returns-in-Ok-Some-clause-looked
 returns-in-Ok-Some-clause-looked g c =
