@@ -57,7 +57,8 @@ pub fn echo_all<R: TellRead, W: TellWrite>(
         (kind_pieces reader.old.decoder.max) piece_kind echoes
         (server reader.old echo writer.old) ended (server reader.new echo writer.new)) }
     ensures failed { IfErr result (λ e. ServingFails interrupt_limit R.remaining W.log W.trace
-        (kind_pieces reader.old.decoder.max) piece_kind echoes NeverFails (server reader.old echo writer.old) e (server reader.new echo writer.new)) }
+        (kind_pieces reader.old.decoder.max) piece_kind echoes NeverFails
+        (server reader.old echo writer.old) e (server reader.new echo writer.new)) }
 {
     serve_all(&mut Echo, reader, writer)
 }
