@@ -7,7 +7,7 @@ use std::alloc::Global;
 use std::io;
 use std::io::{ErrorKind, Read};
 use std::test::Fail;
-use tests_common::{Source, Target, empty, first, holding, kind, source, target};
+use tests_common::{empty, first, holding, kind, target};
 
 // A call, with how much it is asked for, or what it is given.
 #[derive(Clone, Copy)]
@@ -62,22 +62,27 @@ fn consume_exact(b: &mut Buffer, n: usize) {
     }
 }
 
-// A call over these streams and this slice, by its law if it has one. It promises nothing.
-fn by_law<R: TellRead, W: TellWrite>(
+// A call over these streams and this slice, by its law if it has one; or by itself, but for those that the program `replay` makes.
+// It promises nothing.
+fn makes<R: TellRead, W: TellWrite>(
     b: &mut Buffer,
     call: Move,
-    rdr: &mut R,
-    wrt: &mut W,
+    (rdr, wrt): (&mut R, &mut W),
     out: &mut [u8],
+    is_law: bool,
 ) -> Answered {
     match call {
-        Move::ToSlice(room) => return Ok(potential::copy_to_slice(b, room_of(out, room))),
+        Move::ToSlice(room) if is_law => return Ok(potential::copy_to_slice(b, room_of(out, room))),
+        Move::ToSlice(room) => return Ok(b.copy_to_slice(room_of(out, room))),
         Move::FromSlice(src) => return Ok(potential::copy_from_slice(b, src)),
         Move::Append(src) => return Ok(append(b, src)),
         Move::Push(src) => return done(potential::push_bytes(b, src)),
-        Move::Max(max) => return done(potential::write_max(b, max, wrt)),
-        Move::All => return done(potential::write_all(b, wrt)),
-        Move::Write => return kind(potential::write_to(b, wrt)),
+        Move::Max(max) if is_law => return done(potential::write_max(b, max, wrt)),
+        Move::Max(max) => return done(b.write_max(max, wrt)),
+        Move::All if is_law => return done(potential::write_all(b, wrt)),
+        Move::All => return done(b.write_all(wrt)),
+        Move::Write if is_law => return kind(potential::write_to(b, wrt)),
+        Move::Write => return kind(b.write_to(wrt)),
         Move::Read => return kind(potential::read_from(b, rdr)),
         Move::Consume(n) => potential::consume(b, n),
         Move::Exactly(n) => consume_exact(b, n),
@@ -87,23 +92,6 @@ fn by_law<R: TellRead, W: TellWrite>(
         Move::Clear => potential::clear(b),
     }
     Ok(0)
-}
-
-// The same by itself, but for those that the program `replay` makes.
-fn by_itself<R: TellRead, W: TellWrite>(
-    b: &mut Buffer,
-    call: Move,
-    rdr: &mut R,
-    wrt: &mut W,
-    out: &mut [u8],
-) -> Answered {
-    match call {
-        Move::ToSlice(room) => Ok(b.copy_to_slice(room_of(out, room))),
-        Move::Max(max) => done(b.write_max(max, wrt)),
-        Move::All => done(b.write_all(wrt)),
-        Move::Write => kind(b.write_to(wrt)),
-        _ => by_law(b, call, rdr, wrt, out),
-    }
 }
 
 // A call, what it returns, and then the bytes that are held and how many can be written behind them.
@@ -202,12 +190,7 @@ fn walks<R: TellRead, W: TellWrite>(
     is_law: bool,
 ) -> bool {
     for &(call, answer, held, space) in steps {
-        let came = if is_law {
-            by_law(b, call, rdr, wrt, out)
-        } else {
-            by_itself(b, call, rdr, wrt, out)
-        };
-        if came != answer || !is_so(b, held, space) {
+        if makes(b, call, (&mut *rdr, &mut *wrt), out, is_law) != answer || !is_so(b, held, space) {
             return false;
         }
     }
@@ -217,11 +200,12 @@ fn walks<R: TellRead, W: TellWrite>(
 // Whether a walk is walked, and leaves the slice and the stream as it says.
 fn goes(alloc: Global, walk: &Walk, is_law: bool) -> Result<bool, Fail> {
     let &(held, script, steps, copied, received) = walk;
+    let mut wrt = target(alloc, script)?;
     let mut b = holding(alloc, 8, held)?;
-    let mut rdr: Source = source(alloc, &[40], &[])?;
-    let mut wrt: Target = target(alloc, script)?;
+    let mut rdr = Told::new([40].as_slice());
     let mut out = [0; 5];
     let is_walked = walks(&mut b, steps, (&mut rdr, &mut wrt), &mut out, is_law);
+    drop(b);
     Ok(is_walked && out.as_slice() == copied && wrt.get_ref().taken() == received)
 }
 

@@ -137,34 +137,34 @@ fn sent<P>(answer: Answered, wrt: &BufWriter<Target, P>) -> Sent {
     (answer, taken(wrt).len(), wrt.buf_len())
 }
 
-fn any(wrt: &mut BufWriter<Target>) -> Sent {
-    let answer = kind(laws::write_law(wrt, TEXT));
-    sent(answer, wrt)
+fn any(mut wrt: BufWriter<Target>) -> Sent {
+    let answer = kind(laws::write_law(&mut wrt, TEXT));
+    sent(answer, &wrt)
 }
 
-fn on_byte(wrt: &mut BufWriter<Target, FlushOn>) -> Sent {
-    let answer = kind(laws::flush_on_law(wrt, TEXT));
-    sent(answer, wrt)
+fn on_byte(mut wrt: BufWriter<Target, FlushOn>) -> Sent {
+    let answer = kind(laws::flush_on_law(&mut wrt, TEXT));
+    sent(answer, &wrt)
 }
 
-fn on_newline(wrt: &mut BufWriter<Target, FlushOnNewline>) -> Sent {
-    let answer = kind(laws::flush_on_newline_law(wrt, TEXT));
-    sent(answer, wrt)
+fn on_newline(mut wrt: BufWriter<Target, FlushOnNewline>) -> Sent {
+    let answer = kind(laws::flush_on_newline_law(&mut wrt, TEXT));
+    sent(answer, &wrt)
 }
 
-fn at_least(wrt: &mut BufWriter<Target, FlushAtLeast>) -> Sent {
-    let answer = kind(laws::flush_at_least_law(wrt, TEXT));
-    sent(answer, wrt)
+fn at_least(mut wrt: BufWriter<Target, FlushAtLeast>) -> Sent {
+    let answer = kind(laws::flush_at_least_law(&mut wrt, TEXT));
+    sent(answer, &wrt)
 }
 
-fn exact(wrt: &mut BufWriter<Target, FlushExact>) -> Sent {
-    let answer = kind(laws::flush_exact_law(wrt, TEXT));
-    sent(answer, wrt)
+fn exact(mut wrt: BufWriter<Target, FlushExact>) -> Sent {
+    let answer = kind(laws::flush_exact_law(&mut wrt, TEXT));
+    sent(answer, &wrt)
 }
 
-fn line(lines: &mut LineWriter<Target>) -> Sent {
-    let answer = kind(laws::line_law(lines, TEXT));
-    (answer, taken_lines(lines).len(), lines.buf_len())
+fn line(mut lines: LineWriter<Target>) -> Sent {
+    let answer = kind(laws::line_law(&mut lines, TEXT));
+    (answer, taken_lines(&lines).len(), lines.buf_len())
 }
 
 // Over an empty buffer of capacity 8.
@@ -174,12 +174,12 @@ fn under<P: WriterPolicy + Drop>(alloc: Global, policy: P) -> Result<BufWriter<T
 
 fn each(alloc: Global) -> Result<[Sent; 6], Fail> {
     Ok([
-        any(&mut under(alloc, StdPolicy)?),
-        on_byte(&mut under(alloc, FlushOn(b'b'))?),
-        on_newline(&mut under(alloc, FlushOnNewline)?),
-        at_least(&mut under(alloc, FlushAtLeast(3))?),
-        exact(&mut under(alloc, FlushExact(4))?),
-        line(&mut line_writer(alloc, 8, &[], target(alloc, &[])?)?),
+        any(under(alloc, StdPolicy)?),
+        on_byte(under(alloc, FlushOn(b'b'))?),
+        on_newline(under(alloc, FlushOnNewline)?),
+        at_least(under(alloc, FlushAtLeast(3))?),
+        exact(under(alloc, FlushExact(4))?),
+        line(line_writer(alloc, 8, &[], target(alloc, &[])?)?),
     ])
 }
 

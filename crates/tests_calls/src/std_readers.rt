@@ -168,16 +168,19 @@ static ROWS: [Row; 3] = [
     ),
 ];
 
+fn are_so(rdr: &mut BufReader<Source>, out: &mut Vec<u8>, steps: &[Step]) -> bool {
+    for step in steps {
+        if !is_so(rdr, out, step) {
+            return false;
+        }
+    }
+    true
+}
+
 fn holds(alloc: Global, row: &Row) -> Result<bool, Fail> {
     let &(held, bytes, script, steps) = row;
     let mut rdr = reader(alloc, 4, held, source(alloc, bytes, script)?)?;
-    let mut out = Vec::new(alloc);
-    for step in steps {
-        if !is_so(&mut rdr, &mut out, step) {
-            return Ok(false);
-        }
-    }
-    Ok(true)
+    Ok(are_so(&mut rdr, &mut Vec::new(alloc), steps))
 }
 
 #[test]

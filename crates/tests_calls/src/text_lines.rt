@@ -174,21 +174,19 @@ fn is_line(given: Option<io::Result<String>>, want: Option<Result<&str, ErrorKin
 }
 
 fn is_cut(mut pieces: Split<Source>, wants: &[&[u8]]) -> bool {
+    let mut is_so = true;
     for want in wants {
-        if !is_piece(pieces.next(), Some(*want)) {
-            return false;
-        }
+        is_so = is_piece(pieces.next(), Some(*want)) && is_so;
     }
-    is_piece(pieces.next(), None)
+    is_piece(pieces.next(), None) && is_so
 }
 
 fn is_read(mut lines: Lines<Source>, wants: &[Result<&str, ErrorKind>]) -> bool {
+    let mut is_so = true;
     for want in wants {
-        if !is_line(lines.next(), Some(*want)) {
-            return false;
-        }
+        is_so = is_line(lines.next(), Some(*want)) && is_so;
     }
-    is_line(lines.next(), None)
+    is_line(lines.next(), None) && is_so
 }
 
 #[test]
@@ -216,17 +214,15 @@ fn is_told<T: Drop>(given: Option<io::Result<T>>) -> bool {
 fn split_again(alloc: Global, mut pieces: Split<Source>) -> bool {
     let is_told = is_told(pieces.next());
     let (rdr, begun) = pieces.into_parts();
-    is_told
-        && begun.as_slice() == b"a".as_slice()
-        && is_cut(Split::from_parts(alloc, rdr, b',', begun), &[b"ab", b"c"])
+    let is_begun = begun.as_slice() == b"a".as_slice();
+    is_cut(Split::from_parts(alloc, rdr, b',', begun), &[b"ab", b"c"]) && is_told && is_begun
 }
 
 fn lined_again(alloc: Global, mut lines: Lines<Source>) -> bool {
     let is_told = is_told(lines.next());
     let (rdr, begun) = lines.into_parts();
-    is_told
-        && begun.as_slice() == b"a".as_slice()
-        && is_read(Lines::from_parts(alloc, rdr, begun), &[Ok("ab,c")])
+    let is_begun = begun.as_slice() == b"a".as_slice();
+    is_read(Lines::from_parts(alloc, rdr, begun), &[Ok("ab,c")]) && is_told && is_begun
 }
 
 #[test]
