@@ -5,11 +5,19 @@ use buffer_redux::policy::MinBuffered;
 use buffer_redux::tell::{TellRead, Told};
 use buffer_redux::{BufImpl, BufReader, BufWriter, Buffer, LineWriter};
 use line_reader::LineReader;
-use std::alloc::Global;
+use std::alloc::{AllocError, Global};
 use std::io;
 
 /// How many bytes a lookahead asks for.
 const LEAST: usize = 4096;
+
+/// Appends these parts, one after another.
+pub fn extend(bytes: &mut Vec<u8>, parts: &[&[u8]]) -> Result<(), AllocError> {
+    for part in parts {
+        bytes.extend_from_slice(part)?;
+    }
+    Ok(())
+}
 
 pub fn told(bytes: &[u8]) -> Told<Source<'_>> {
     Told::new(Source { left: bytes })
