@@ -33,7 +33,7 @@ static WHOLE: [Row<'static>; 2] = [(b"", b"n end|n end|"), (b"a\nbc", b"n a|n Cu
 static SEVERAL: [Row<'static>; 3] = [
     (b"xabaababaz", b"n x|n |n baz|n end|n end|"),
     (b"wxyzaba", b"n wxyz|n end|"),
-    (b"abxyzab", b"n TooLong(4)|r abxyzab|"),
+    (b"abxyabz", b"n TooLong(4)|r abxyabz|"),
 ];
 
 // `12:hello world!,` is the example of the paper that has netstrings from.
