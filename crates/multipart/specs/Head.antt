@@ -42,8 +42,8 @@ next front text = after_front front (begun_by text)
 abbrev pub before : ℕ → List ℕ → List ℕ
 before byte text = option_map_or (λ at. take at text) (position (λ here. here == byte) text) text
 
--- what a place says of what is sought: the end of a line, which no blank continues, and what stands behind that; what stands behind
--- a field's name, that begins a line, and a colon; or behind a parameter's, in front of which `;` stands, and `=`, outside quotes
+-- what a place says of what is sought: the end of a line, which no blank continues, and what stands behind that; what stands
+-- behind a field's name, that begins a line, and a colon; or behind a parameter's, with `;` in front, and `=`, outside quotes
 abbrev pub said_at : Sought → List ℕ → Bool → List ℕ → Option (List ℕ)
 said_at LineEnd name quoted text =
     if starts_with nat_eq text crlf && not (is_blank (slice_index text 2)) then Some text else None

@@ -278,11 +278,8 @@ fn writes_all<P: WriterPolicy>(
 ) -> Result<(), AllocError> {
     let answer = write_all(writer, bytes);
     let target = writer.get_ref().get_ref();
-    let held = target
-        .inside()
-        .taken()
-        .len()
-        .saturating_add(writer.buf_len());
+    let taken = target.inside().taken().len();
+    let held = taken.saturating_add(writer.buf_len());
     let count = match answer {
         WriterAnswer::Done => bytes.len(),
         _ => held.saturating_sub(record.accepted.len()),
@@ -342,8 +339,7 @@ impl Record {
         })
     }
 
-    // Notes what the last calls did: what they accepted, and their errors beside the last of the target's, if that is of these
-    // calls.
+    // Notes what the last calls accepted, and their errors beside the last of the target's, if that is of these calls.
     fn note(&mut self, calls: &[WriterCall<'_>], errors: &[ErrorKind]) -> Result<(), AllocError> {
         let last = errors.iter().skip(self.seen).last().copied();
         self.seen = errors.len();

@@ -62,8 +62,8 @@ fn consume_exact(b: &mut Buffer, n: usize) {
     }
 }
 
-// A call over these streams and this slice, by its law if it has one; or by itself, but for those that the program `replay` makes.
-// It promises nothing.
+// A call over these streams and this slice, by its law if it has one; or by itself, but for those that `replay` makes. It
+// promises nothing.
 fn makes<R: TellRead, W: TellWrite>(
     b: &mut Buffer,
     call: Move,

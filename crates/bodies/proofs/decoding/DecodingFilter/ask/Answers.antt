@@ -23,5 +23,6 @@ pub returns-in-Err : goal.returns-in-Err
 returns-in-Err g c =
     let len = c.read_payload.auto.out ∙ ap length c.as_mut_slice.ensures.value in
     rw c.ask_error.ensures (asked_failed g.R.TellRead.remaining c.args.self.now c.requires.ready c.requires.lacks.0
-    c.read_payload.new.self c.read_payload.new.out len c.requires.lacks.1 c.in-Err.e (nat_lt c.taken-taken.result c.taken-in-Err.result)
-    (rw (c.taken-taken.ensures, c.taken-in-Err.ensures) refl) c.in-Err.ensures.reads)
+    c.read_payload.new.self c.read_payload.new.out len c.requires.lacks.1 c.in-Err.e
+    (nat_lt c.taken-taken.result c.taken-in-Err.result) (rw (c.taken-taken.ensures, c.taken-in-Err.ensures) refl)
+    c.in-Err.ensures.reads)

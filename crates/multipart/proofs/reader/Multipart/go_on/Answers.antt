@@ -1,5 +1,5 @@
--- What is collected goes on with what came of the head before. One that ended is the two hyphens, or else a part begins: the codings
--- change places, and what was collected is the whole head that the one before says.
+-- What is collected goes on with what came of the head before. One that ended is the two hyphens, or else a part begins: the
+-- codings change places, and what was collected is the whole head that the one before says.
 use Rattle.std.proofs.Common.{◌∙◌, arith, refl, sym}
 use Rattle.multipart.proofs.Turning.{ends, goes, more, still, whole}
 use Rattle.multipart.proofs.reader.Multipart.go_on.Goals as goal

@@ -17,7 +17,12 @@ returns g c = rw (← c.self.view_is) (inl (
   c.turn_last.new.heads,
   c.in_ok-drain.ensures.drains,
   c.turn_last.ensures,
-  rw (c.begin_next.ensures.begun, c.begin_next.ensures.before, c.clear.ensures.items, c.clear.ensures.capacity) at c.go_on.ensures,
+  rw (
+    c.begin_next.ensures.begun,
+    c.begin_next.ensures.before,
+    c.clear.ensures.items,
+    c.clear.ensures.capacity,
+  ) at c.go_on.ensures,
 ))
 
 pub invariant_of-self : goal.invariant_of-self
