@@ -1,7 +1,5 @@
-//! A coding of bodies as one writes it: the text of a mail, whose end is a line of one dot; and texts that are cut in every way.
+//! A coding of bodies as one writes it: the text of a mail, whose end is a line of one dot.
 #![tactic(auto)]
 
 pub mod dot_stuffed;
 pub mod laws;
-#[cfg(test)]
-mod mails;

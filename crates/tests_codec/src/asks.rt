@@ -1,48 +1,8 @@
-//! Readers that are asked for one thing after another.
+//! Readers and writers that are asked for one thing after another.
 use buffer_redux::tell::TellRead;
 use std::alloc::Global;
-use std::fmt::{Debug, Display};
 use tests_common::sweep::Came;
-use tests_common::{debug, display, first};
-
-/// What calls answered. What there is no memory for isn't noted.
-#[derive(Drop)]
-pub struct Log {
-    alloc: Global,
-    text: Vec<u8>,
-}
-
-impl Log {
-    /// Nothing was noted yet.
-    pub fn new(alloc: Global) -> Log {
-        let text = Vec::new(alloc);
-        Log { alloc, text }
-    }
-
-    /// Notes these bytes.
-    pub fn note(&mut self, bytes: &[u8]) {
-        let _ = self.text.extend_from_slice(bytes);
-    }
-
-    /// Notes what is printed of a value.
-    pub fn show<T: Display>(&mut self, value: &T) {
-        if let Ok(text) = display(self.alloc, value) {
-            self.note(text.as_bytes());
-        }
-    }
-
-    /// Notes what a programmer is shown of it.
-    pub fn show_debug<T: Debug>(&mut self, value: &T) {
-        if let Ok(text) = debug(self.alloc, value) {
-            self.note(text.as_bytes());
-        }
-    }
-
-    /// Whether this was noted.
-    pub fn is(&self, wants: &[u8]) -> bool {
-        self.text.as_slice() == wants
-    }
-}
+use tests_common::{Log, first};
 
 /// A reader or a writer over a stream that answers by a script.
 pub trait Asks {
@@ -53,9 +13,6 @@ pub trait Asks {
     fn asked(&self) -> usize;
 }
 
-/// The bytes of the stream, and call after call: its letter, a blank, what it answers, and a bar.
-pub type Row<'a> = (&'a [u8], &'a [u8]);
-
 // Makes a call, of which `a` is how often the stream was asked.
 fn ask<A: Asks>(asked: &mut A, call: &[u8], log: &mut Log) -> bool {
     if call == b"a".as_slice() {
@@ -65,10 +22,14 @@ fn ask<A: Asks>(asked: &mut A, call: &[u8], log: &mut Log) -> bool {
     asked.ask(call, log)
 }
 
-// Makes a call, again where the stream failed if that is asked for. How often it failed.
-fn step<A: Asks>(asked: &mut A, call: &[u8], again: bool, log: &mut Log) -> usize {
-    log.note(first(call, 1));
-    log.note(b" ");
+// Makes the call that this begins with, again where the stream failed if that is asked for. How often it failed.
+fn step<A: Asks>(asked: &mut A, wants: &[u8], again: bool, log: &mut Log) -> usize {
+    let call = first(
+        wants,
+        wants.iter().position(|byte| *byte == b'=').unwrap_or(0),
+    );
+    log.note(call);
+    log.note(b"=");
     let failed = ask(asked, call, log);
     if failed && (!again || ask(asked, call, log)) {
         log.note(b"failed");
@@ -77,40 +38,25 @@ fn step<A: Asks>(asked: &mut A, call: &[u8], again: bool, log: &mut Log) -> usiz
     usize::from(failed)
 }
 
-/// Makes the calls of a row, again where the stream failed if that is asked for. Nothing where an answer is another.
+/// Makes call after call, again where the stream failed if that is asked for. Nothing where an answer is another. A call is its
+/// letter, what it is given, `=`, what it answers, and a bar.
 pub fn walk<A: Asks + Drop>(
     alloc: Global,
-    mut reader: A,
+    mut asked: A,
     wants: &[u8],
     again: bool,
 ) -> Option<Came> {
     let mut log = Log::new(alloc);
     let mut failed = 0usize;
-    let mut begins = true;
-    for byte in wants {
-        if begins {
-            failed = failed.saturating_add(step(&mut reader, &[*byte], again, &mut log));
+    let mut begin = 0;
+    for (at, byte) in wants.iter().enumerate() {
+        if *byte == b'|' {
+            let call = wants.get(begin..at).unwrap_or(b"");
+            failed = failed.saturating_add(step(&mut asked, call, again, &mut log));
+            begin = at.saturating_add(1);
         }
-        begins = *byte == b'|';
     }
-    let calls = reader.asked();
-    log.is(wants).then_some(Came { failed, calls })
-}
-
-/// Makes these calls, with what is behind the letter of each.
-pub fn walk_through<A: Asks + Drop>(
-    alloc: Global,
-    mut writer: A,
-    calls: &[&[u8]],
-    wants: &[u8],
-    again: bool,
-) -> Option<Came> {
-    let mut log = Log::new(alloc);
-    let mut failed = 0usize;
-    for call in calls {
-        failed = failed.saturating_add(step(&mut writer, call, again, &mut log));
-    }
-    let calls = writer.asked();
+    let calls = asked.asked();
     log.is(wants).then_some(Came { failed, calls })
 }
 

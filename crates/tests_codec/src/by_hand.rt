@@ -1,6 +1,6 @@
 //! Readers that are taken apart and go on, and the buffers of readers of pieces.
-use crate::asks::{Asks, Log, walk};
-use crate::readers::{HUGE, frame_reader, line_reader, lines_of};
+use crate::asks::{Asks, walk};
+use crate::kinds::{HUGE, frame_reader, line_reader, lines_of};
 use Way::{Fitted, Handed, OfFrames, OfLines, Reset};
 use buffer_redux::{Buffer, MakeError};
 use codec::laws::handed_over;
@@ -12,7 +12,7 @@ use std::alloc::Global;
 use std::io;
 use std::io::ErrorKind;
 use std::test::Fail;
-use tests_common::{Source, holding_in, source};
+use tests_common::{Log, Source, holding_in, source};
 
 type Lines = PieceReader<Source, Delimited>;
 
@@ -33,16 +33,16 @@ enum Way {
 
 // How it goes on, with which greatest length, and what comes then, or nothing where it doesn't go on.
 static GO_ON: [(Way, usize, &'static [u8]); 10] = [
-    (Reset, 3, b"n bcd|a 1|n e|"),
+    (Reset, 3, b"n=bcd|a=1|n=e|"),
     (Reset, 4, b""),
-    (Fitted, 4, b"n bcd|a 1|n e|"),
+    (Fitted, 4, b"n=bcd|a=1|n=e|"),
     (Fitted, HUGE, b""),
-    (Handed, 4, b"n bcd|a 1|n e|"),
+    (Handed, 4, b"n=bcd|a=1|n=e|"),
     (Handed, HUGE, b""),
-    (OfLines, 9, b"m 9|n bcd|a 1|n e|n end|"),
-    (OfLines, 2, b"n TooLong(2)|a 1|"),
+    (OfLines, 9, b"m=9|n=bcd|a=1|n=e|n=end|"),
+    (OfLines, 2, b"n=TooLong(2)|a=1|"),
     (OfLines, HUGE, b""),
-    (OfFrames, 3, b"s true|n b|n cde|a 1|n end|"),
+    (OfFrames, 3, b"s=true|n=b|n=cde|a=1|n=end|"),
 ];
 
 // A reader of lines of at most three bytes, over a buffer of so many bytes or of twelve.
@@ -73,11 +73,6 @@ fn lines_of_parts(
 ) -> Option<LineReader<Source>> {
     let (inner, buffer, _) = lines.into_inner_with_buffer().ok()?;
     LineReader::with_buffer(alloc, buffer, inner, max).ok()
-}
-
-// The reader that is handed back, where it isn't taken apart.
-fn handed_back(lines: LineReader<Source>) -> Option<LineReader<Source>> {
-    lines.into_inner_with_buffer().err()
 }
 
 fn frames_of_parts(alloc: Global, frames: FrameReader<Source>) -> Option<FrameReader<Source>> {
@@ -134,22 +129,18 @@ fn goes_on(alloc: Global, row: (Way, usize, &[u8])) -> io::Result<bool> {
     }
 }
 
-// A reader in whose line a skip failed.
-fn within_a_line(alloc: Global) -> io::Result<LineReader<Source>> {
+// A reader in whose line a skip failed, as it is handed back where it isn't taken apart.
+fn within_a_line(alloc: Global) -> io::Result<Option<LineReader<Source>>> {
     let script = [Answer::Serve(3), Answer::Fail(ErrorKind::TimedOut)];
     let mut lines = line_reader(alloc, 3, source(alloc, b"abcdef\nok", &script)?)?;
     let _ = lines.ask(b"d", &mut Log::new(alloc));
-    Ok(lines)
-}
-
-fn stays_within_a_line(alloc: Global) -> io::Result<bool> {
-    let lines = within_a_line(alloc)?;
-    Ok(comes_to(alloc, handed_back(lines), b"k true|n ok|n end|"))
+    Ok(lines.into_inner_with_buffer().err())
 }
 
 #[test]
 fn stays_whole_within_a_line(rt: HostRuntime) -> Result<(), Fail> {
-    assert!(rt; stays_within_a_line(rt.alloc())?);
+    let lines = within_a_line(rt.alloc())?;
+    assert!(rt; comes_to(rt.alloc(), lines, b"k=true|n=ok|n=end|"));
     Ok(())
 }
 

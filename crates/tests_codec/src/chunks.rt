@@ -1,5 +1,4 @@
 //! The writer of bodies in the chunked coding.
-use crate::asks::Log;
 use buffer_redux::tell::TellWrite;
 use buffer_redux::{BufWriter, IntoInnerError};
 use chunked::{ChunkedWriter, FinishError, TrailersError};
@@ -9,7 +8,7 @@ use std::io;
 use std::io::ErrorKind;
 use std::test::Fail;
 use tests_common::sweep::FAULT;
-use tests_common::{Target, flush, taken, target, write, write_all, writer};
+use tests_common::{Log, Target, flush, taken, target, write, write_all, writer};
 
 // The capacity of the buffer, what is written, the lines of the trailers, and the body that this makes.
 struct Row<'a>(usize, &'a [&'a [u8]], &'a [&'a [u8]], &'a [u8]);
@@ -155,7 +154,7 @@ fn goes_on(mut body: Body) -> io::Result<bool> {
     let unsent = taken(body.get_ref()).is_empty();
     write_all(&mut body, b"!")?;
     let want = b"5\r\nhello\r\n1\r\n!\r\n0\r\n0123456789abcdef:\t\xff\r\n\r\n";
-    Ok(unsent && sends(body, &[b"0123456789abcdef:\t\xff"], want)?)
+    Ok(sends(body, &[b"0123456789abcdef:\t\xff"], want)? && unsent)
 }
 
 fn is_said(alloc: Global, error: &TrailersError, why: &[u8]) -> bool {
@@ -196,17 +195,27 @@ fn lacks(alloc: Global, body: Body) -> Option<Body> {
     refused(alloc, body, &[], b"Due(32)")
 }
 
-// Whether a chunk of 32 bytes, as whose line was sent the stream failed, is ended by just as many.
-fn ends_chunk(alloc: Global) -> io::Result<bool> {
-    let mut begun = body(alloc, 24, &[Answer::ServeEach(usize::MAX), FAULT])?;
-    let failed = write(&mut begun, &[b'a'; 32]).is_err() && begun.due() == 32;
-    let Some(mut begun) = lacks(alloc, begun) else {
-        return Ok(false);
-    };
-    let some = write(&mut begun, b"aaaaaaaaaa")? == 10 && begun.due() == 22;
+// Whether a write takes so many bytes, or fails, and so many are due then.
+fn leaves(body: &mut Body, bytes: &[u8], taken: Option<usize>, due: usize) -> bool {
+    write(body, bytes).ok() == taken && body.due() == due
+}
+
+// Whether just the bytes that are due end the chunk.
+fn ends(mut begun: Body) -> io::Result<bool> {
+    let some = leaves(&mut begun, b"aaaaaaaaaa", Some(10), 22);
     write_all(&mut begun, &[b'a'; 30])?;
     let want = b"20\r\naaaaaaaaaaaaaaaaaaaaaaaaaaaaaaaa\r\n8\r\naaaaaaaa\r\n0\r\n\r\n";
-    Ok(failed && some && sends(begun, &[], want)?)
+    Ok(sends(begun, &[], want)? && some)
+}
+
+// A chunk of 32 bytes, as whose line was sent the stream failed.
+fn ends_chunk(alloc: Global) -> io::Result<bool> {
+    let mut begun = body(alloc, 24, &[Answer::ServeEach(usize::MAX), FAULT])?;
+    let failed = leaves(&mut begun, &[b'a'; 32], None, 32);
+    match lacks(alloc, begun) {
+        Some(begun) => Ok(ends(begun)? && failed),
+        None => Ok(false),
+    }
 }
 
 // A writer that is made again of its parts.

@@ -1,6 +1,6 @@
 //! What a writer that is dropped does to the stream inside, which is lent to it. A reader's drop is derived, and makes no call.
 use crate::chunks;
-use crate::written::frame_writer;
+use crate::kinds::frame_writer;
 use Way::{Body, Ended, Frames, Lines, Refused};
 use buffer_redux::tell::{TellWrite, Told};
 use chunked::ChunkedWriter;
@@ -32,7 +32,7 @@ fn drops_lines<W: TellWrite + Drop>(alloc: Global, inner: W) -> io::Result<()> {
 }
 
 fn drops_frames<W: TellWrite + Drop>(alloc: Global, inner: W) -> io::Result<()> {
-    let mut sends = frame_writer(alloc, inner, 9)?;
+    let mut sends = frame_writer(alloc, 9, inner)?;
     let _ = sends.write_frame(b"hello");
     Ok(())
 }

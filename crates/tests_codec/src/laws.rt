@@ -1,6 +1,5 @@
 //! The laws that make calls: any number of them with their answers, and lists of payloads that are written and read again.
-use crate::asks::Log;
-use crate::readers::line_reader;
+use crate::kinds::line_reader;
 use codec::laws::{play_next, play_write, write_each};
 use codec::{Delimited, PieceWriter, WritePieceError};
 use frame_reader::WriteFrameError;
@@ -11,7 +10,7 @@ use std::alloc::{AllocError, Global};
 use std::io;
 use std::io::ErrorKind;
 use std::test::Fail;
-use tests_common::{Source, Target, line_writer, source, taken_lines, target};
+use tests_common::{Log, Source, Target, line_writer, source, taken_lines, target};
 
 // Notes a line or what came in its place, and a bar.
 fn note_line(answer: &Result<Option<Vec<u8>>, LineError>, log: &mut Log) {
@@ -116,7 +115,10 @@ fn writer(alloc: Global) -> io::Result<PieceWriter<Target, Delimited>> {
 
 // Behind how many the first was refused.
 fn writes_each(alloc: Global, payloads: &[Vec<u8>]) -> io::Result<Option<usize>> {
-    Ok(match write_each(&mut writer(alloc)?, payloads) {
+    let mut writer = writer(alloc)?;
+    let written = write_each(&mut writer, payloads);
+    drop(writer);
+    Ok(match written {
         Ok(()) => None,
         Err(e) => Some(e.taken),
     })
@@ -124,9 +126,14 @@ fn writes_each(alloc: Global, payloads: &[Vec<u8>]) -> io::Result<Option<usize>>
 
 // The same where each is written, whatever came of those before.
 fn plays_each(alloc: Global, payloads: &[Vec<u8>]) -> io::Result<Option<usize>> {
+    let mut writer = writer(alloc)?;
     let mut answers = Vec::new(alloc);
-    play_write(&mut writer(alloc)?, payloads, &mut answers)?;
-    Ok(answers.iter().position(|answer| answer.is_err()))
+    let played = play_write(&mut writer, payloads, &mut answers);
+    drop(writer);
+    let refused = answers.iter().position(|answer| answer.is_err());
+    drop(answers);
+    played?;
+    Ok(refused)
 }
 
 // Whether lists come back whole, as lines and as frames, or are refused.
@@ -142,14 +149,18 @@ fn come_back(alloc: Global, payloads: &[Vec<u8>], refused: bool) -> bool {
     lines && frames
 }
 
+fn are_so(alloc: Global, payloads: &[Vec<u8>], taken: Option<usize>) -> io::Result<bool> {
+    let each = writes_each(alloc, payloads)? == taken && plays_each(alloc, payloads)? == taken;
+    Ok(each && come_back(alloc, payloads, taken.is_some()))
+}
+
 #[test]
 fn writes_and_reads_lists(rt: HostRuntime) -> Result<(), Fail> {
-    let alloc = rt.alloc();
     for &(list, taken) in &LISTS {
-        let payloads = owned(alloc, list)?;
-        assert!(rt; writes_each(alloc, payloads.as_slice())? == taken);
-        assert!(rt; plays_each(alloc, payloads.as_slice())? == taken);
-        assert!(rt; come_back(alloc, payloads.as_slice(), taken.is_some()));
+        let payloads = owned(rt.alloc(), list)?;
+        let is_so = are_so(rt.alloc(), payloads.as_slice(), taken);
+        drop(payloads);
+        assert!(rt; is_so?);
     }
     Ok(())
 }
@@ -165,13 +176,17 @@ static SENT: [(&[Answer], Option<usize>, &'static [u8]); 2] = [
 ];
 
 fn sends_lines(alloc: Global, row: &(&[Answer], Option<usize>, &[u8])) -> io::Result<bool> {
-    let mut lines = line_writer(alloc, 4, b"", target(alloc, row.0)?)?;
     let payloads = owned(alloc, &[b"ab", b"cdefg"])?;
-    let taken = match line_play::write_each(&mut lines, payloads.as_slice()) {
+    let mut lines = line_writer(alloc, 4, b"", target(alloc, row.0)?)?;
+    let written = line_play::write_each(&mut lines, payloads.as_slice());
+    drop(payloads);
+    let is_taken = taken_lines(&lines) == row.2;
+    drop(lines);
+    let taken = match written {
         Ok(()) => None,
         Err(e) => Some(e.taken),
     };
-    Ok(taken == row.1 && taken_lines(&lines) == row.2)
+    Ok(is_taken && taken == row.1)
 }
 
 #[test]

@@ -15,9 +15,13 @@ mod drops;
 #[cfg(test)]
 mod examples;
 #[cfg(test)]
+mod kinds;
+#[cfg(test)]
 mod laws;
 #[cfg(test)]
 mod lent;
+#[cfg(test)]
+mod mails;
 pub mod packets;
 #[cfg(test)]
 mod parts;
@@ -31,5 +35,7 @@ mod requests;
 mod served;
 #[cfg(test)]
 mod texts;
+#[cfg(test)]
+mod writers;
 #[cfg(test)]
 mod written;

@@ -1,5 +1,5 @@
 //! Heads of requests, and messages one after another.
-use crate::asks::{Log, gives};
+use crate::asks::gives;
 use buffer_redux::Buffer;
 use buffer_redux::tell::TellRead;
 use messages::laws::{Stopped, pass};
@@ -7,7 +7,7 @@ use messages::{BadHead, Body, Limits, ParsedHead, Requests, Stop, read_head, rea
 use std::alloc::Global;
 use std::io;
 use std::test::Fail;
-use tests_common::{Source, holding, read, source};
+use tests_common::{Log, Source, holding, kind, read, source};
 
 // Heads, and what they say by RFC 9112, sections 3, 6 and 9.3, and RFC 9110, section 10.1.1, or why they are none.
 static HEADS: [(&'static [u8], &'static [u8]); 8] = [
@@ -241,21 +241,21 @@ fn keeps_to_limits(rt: HostRuntime) -> Result<(), Fail> {
 const PUT: &[u8] = b"PUT /b HTTP/1.1\r\nHost: h\r\nContent-Length: 5\r\n\r\nhello";
 
 // Whether a body shows its head, is read as a stream is, two bytes and then one, and left with the others.
-fn is_left<R: TellRead + Drop>(body: Body<R>) -> bool {
-    let mut body = body;
+fn is_left<R: TellRead + Drop>(mut body: Body<R>) -> bool {
     let shown = Some(body.head()) == PUT.get(..PUT.len() - 5);
     let told = gives(&mut body, b"he");
     let mut out = [0; 1];
     let count = read(&mut body, &mut out);
     let past = gives(body.get_mut(), b"?");
     let (reader, head) = body.into_inner_torn();
+    let left = reader.buffer() == b"lo".as_slice();
+    drop(reader);
+    let is_head = head.len() + 5 == PUT.len();
+    drop(head);
     shown
-        && told == Some(true)
-        && matches!(count, Ok(1))
-        && out == *b"l"
-        && past == Some(false)
-        && reader.buffer() == b"lo".as_slice()
-        && head.len() + 5 == PUT.len()
+        && left
+        && is_head
+        && (told, kind(count), out, past) == (Some(true), Ok(1), *b"l", Some(false))
 }
 
 #[test]
@@ -263,7 +263,10 @@ fn leaves_a_body(rt: HostRuntime) -> Result<(), Fail> {
     let requests = over(rt.alloc(), PUT)?;
     assert!(rt; requests.get_ref().get_ref().offers().is_empty());
     let left = match requests.next() {
-        Ok(body) => body.get_ref().get_ref().offers().len() == 1 && is_left(body),
+        Ok(body) => {
+            let asked = body.get_ref().get_ref().offers().len();
+            is_left(body) && asked == 1
+        }
         Err(_) => false,
     };
     assert!(rt; left);

@@ -107,13 +107,15 @@ fn buffered<R: TellRead>(reader: &mut PieceReader<R, Resp>) -> Option<RespItem> 
 
 // The stream is asked once, behind a flush that was Ok.
 fn is_fetched(alloc: Global, script: &[Answer], fetched: bool) -> io::Result<bool> {
-    let mut reader = requests(alloc)?;
     let mut writer = writer(alloc, 9, b"x", target(alloc, script)?)?;
+    let mut reader = requests(alloc)?;
     let none = buffered(&mut reader).is_none();
     let found = item_of(&mut reader, &mut writer) == Some(RespItem::Inline);
     let next = buffered(&mut reader) == Some(RespItem::Simple);
     let asked = reader.get_ref().get_ref().offers().len() == usize::from(fetched);
+    drop(reader);
     let flushed = flushes(&writer) == usize::from(fetched);
+    drop(writer);
     Ok(none && asked && flushed && (found, next) == (fetched, fetched))
 }
 

@@ -1,5 +1,4 @@
 //! What errors print and as which kind of I/O error they go on, and what is printed of a reader and a writer of a body.
-use crate::asks::Log;
 use crate::chunks;
 use buffer_redux::tell::Told;
 use chunked::{
@@ -13,7 +12,7 @@ use std::fmt::{Debug, Display};
 use std::io;
 use std::io::ErrorKind;
 use std::test::Fail;
-use tests_common::{reader, writer};
+use tests_common::{Log, reader, writer};
 
 // The fault of a stream, whose text is "timed out".
 fn fault() -> io::Error {
