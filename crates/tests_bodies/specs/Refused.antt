@@ -1,5 +1,5 @@
 -- Codings that no law lets through.
-use Rattle.std.specs.Prelude.{◌≡◌, ◌≢◌, ℕ, ◌+◌, ◌≤◌, ◌==◌, List, length, take, Bool, false, if◌then◌else◌, ⊤}
+use Rattle.std.specs.Prelude.{◌≡◌, ◌≢◌, ℕ, ◌+◌, ◌≤◌, ◌==◌, List, length, take, false, if◌then◌else◌}
 use Rattle.std.specs.List.{AllByRecursion}
 use Rattle.body_reader.specs.ByByte.{TurnRules}
 use Rattle.body_reader.specs.Coding.{Grammar}

@@ -1,5 +1,5 @@
 -- All payload begins with the first byte; none goes on behind a 0; and no bytes lead on from where one leads.
-use Rattle.std.proofs.Common.{◌≡◌, ◌≢◌, ℕ, ◌==◌, List, [], ◌∷◌, ◌++◌, Bool, true, false, if◌then◌else◌, inl, inr, refl, subst, sym, ◌∙◌}
+use Rattle.std.proofs.Common.{◌≡◌, ◌≢◌, ℕ, ◌==◌, List, [], ◌∷◌, ◌++◌, Bool, true, false, if◌then◌else◌, inl, inr, refl, subst}
 use Rattle.body_reader.specs.ByByte.{CompletesByTurns}
 use Rattle.body_reader.specs.declared.by_byte.Turn.{Turn}
 use Rattle.body_reader.specs.declared.by_byte.Turn.TheVariants.{Payload, Passed, Wrong}
