@@ -1,16 +1,18 @@
-//! Laws, each as the contract of a function over the calls.
+//! Laws, each as the contract of a function over the calls. A law of calls assumes their exact relations, so no fact of few
+//! words stands in front.
 ghost use Rattle.std.specs.Prelude.{◌≡◌, ◌*◌, ◌^◌, ◌≤◌, ℕ, List, [], ◌∷◌, ◌++◌, IfErr, IfOk, IsOk, None, Ok, Option, Result};
 ghost use Rattle.std.specs.List.{flat_map};
 ghost use Rattle.buffer_redux.specs.Block.{Block};
 ghost use Rattle.buffer_redux.specs.BufWriter.{WritesInOrder};
 ghost use Rattle.buffer_redux.specs.GrowError.{FitsWithin};
 ghost use Rattle.buffer_redux.specs.MakeError.{growth};
+ghost use Rattle.buffer_redux.specs.Sparing.{MovedAtMostGiven};
 ghost use Rattle.buffer_redux.specs.Unbuffer.{StreamWent, unbuffered};
 ghost use Rattle.codec.specs.Encoding.{all_coded};
 ghost use Rattle.piece_reader.specs.KnownPayloads.{AnswersKnown};
 ghost use Rattle.piece_reader.specs.NextPiece.{NextAnswer, PiecesWent};
-ghost use Rattle.codec.specs.PieceWriter.{WriterState, IsMadeOver};
-ghost use Rattle.piece_reader.specs.PieceReader.{ReaderState, IsOver, TakenApart, left_of, rest, room_for};
+ghost use Rattle.codec.specs.PieceWriter.{WriterState, IsMadeOver, IsUnused, unsent};
+ghost use Rattle.piece_reader.specs.PieceReader.{ReaderState, IsFresh, IsOver, TakenApart, left_of, rest, room_for};
 ghost use Rattle.piece_reader.specs.Runs.{Cuts, NextRuns, NoneTold, RunWent, handed_payload};
 ghost use Rattle.piece_reader.specs.Texts.{HasPieces, Splits};
 ghost use Rattle.codec.specs.WritePiece.{PiecesTaken};
@@ -38,6 +40,27 @@ pub fn one_reading<D: Decoder>(decoder: &D)
     ensures stream { (stream left left' : List ℕ) (payloads others : List (List ℕ))
         → Splits (D.grammar decoder.now) stream payloads left → Splits (D.grammar decoder.now) stream others left'
         → (payloads ≡ others) × (left ≡ left') }
+{}
+
+/// Since the reader was made, what was given is the bytes that were handed out, then what is left; and no more bytes were
+/// moved than were given.
+pub fn since_new<R: TellRead, D: Decoder>(reader: &PieceReader<R, D>)
+    ensures given { (least most : ℕ) (stream : R) (finder : D) (first : ReaderState R D) (bytes : List ℕ)
+        → IsFresh R.log least most stream finder first → PiecesWent R.remaining most first bytes reader.now
+        → reader.now.reader.log.reads.given ≡ (R.log stream).reads.given ++ (bytes ++ rest reader.now) }
+    ensures moved { (least most : ℕ) (stream : R) (finder : D) (first : ReaderState R D) (bytes : List ℕ)
+        → IsFresh R.log least most stream finder first → PiecesWent R.remaining most first bytes reader.now
+        → MovedAtMostGiven first.reader reader.now.reader }
+{}
+
+/// Since the writer was made, what the stream received, then what is buffered, is the pieces of the payloads that were taken
+/// in: so no piece was torn, whatever failed.
+pub fn written_since_new<W: TellWrite, E: Encoder>(writer: &PieceWriter<W, E>)
+    ensures { (least : ℕ) (stream : W) (maker : E) (first : WriterState W E) (payloads : List (List ℕ))
+        → IsUnused W.log least (E.encoding maker).most stream maker first
+        → PiecesTaken W.trace (E.encoding maker) first payloads writer.now
+        → writer.now.writer.log.writes.received ++ unsent writer.now
+        ≡ (W.log stream).writes.received ++ all_coded (E.encoding maker) payloads }
 {}
 
 /// A run of calls handed out just the bytes of its pieces, and what one did up to the end that it told is a text of them.

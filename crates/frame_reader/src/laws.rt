@@ -1,11 +1,21 @@
-//! Laws, each as the contract of a function over the calls.
+//! Laws, each as the contract of a function over the calls. A law of calls assumes their exact relations, so no fact of few
+//! words stands in front.
 ghost use Rattle.std.specs.Prelude.{◌≡◌, ℕ, ◌+◌, ◌<◌, ◌^◌, List, ◌++◌, length};
-ghost use Rattle.frame_reader.specs.Framed.{SplitsIntoFrames};
-ghost use Rattle.frame_reader.specs.Frames.{frame};
+ghost use Rattle.buffer_redux.specs.Sparing.{MovedAtMostGiven};
+ghost use Rattle.codec.specs.PieceWriter.{WriterState, IsUnused, unsent};
+ghost use Rattle.codec.specs.PieceReader.{ReaderState, IsFresh, rest};
+ghost use Rattle.codec.specs.WritePiece.{PiecesTaken};
+ghost use Rattle.frame_reader.specs.declared.frame.Frames.{Frames};
+ghost use Rattle.frame_reader.specs.Framed.{SplitsIntoFrames, framed_out};
+ghost use Rattle.frame_reader.specs.Frames.{frame, frames};
+ghost use Rattle.frame_reader.specs.Next.{FramesWent};
 
 mod lists;
 mod runs;
 
+use crate::reader::FrameReader;
+use crate::writer::FrameWriter;
+use buffer_redux::tell::{TellRead, TellWrite};
 pub use codec::laws::{
     KnownReader, PayloadReader, PayloadWriter, WriteEachError, next_known, play_next, play_write,
     read_each, write_each,
@@ -25,3 +35,27 @@ pub fn one_reading(max: u16)
 {
     let _ = max;
 }
+
+/// Since the reader was made, what was given is the frames that were handed out, then what is left; and no more bytes were
+/// moved than were given.
+pub fn since_new<R: TellRead>(reader: &FrameReader<R>)
+    ensures given { (least : ℕ) (stream : R) (first : ReaderState R Frames) (payloads : List (List ℕ))
+        → IsFresh R.log least (2 + first.decoder.max) stream first.decoder first
+        → FramesWent R.remaining first payloads reader.now
+        → reader.now.reader.log.reads.given
+        ≡ (R.log stream).reads.given ++ (frames payloads ++ rest reader.now) }
+    ensures moved { (least : ℕ) (stream : R) (first : ReaderState R Frames) (payloads : List (List ℕ))
+        → IsFresh R.log least (2 + first.decoder.max) stream first.decoder first
+        → FramesWent R.remaining first payloads reader.now
+        → MovedAtMostGiven first.reader reader.now.reader }
+{}
+
+/// Since the writer was made, what the stream received, then what is buffered, is the frames of the payloads that were
+/// taken in: so no frame was torn, whatever failed.
+pub fn written_since_new<W: TellWrite>(writer: &FrameWriter<W>)
+    ensures { (least : ℕ) (stream : W) (first : WriterState W Frames) (payloads : List (List ℕ))
+        → IsUnused W.log least (2 + first.encoder.max) stream first.encoder first
+        → PiecesTaken W.trace (framed_out first.encoder.max) first payloads writer.now
+        → writer.now.writer.log.writes.received ++ unsent writer.now
+        ≡ (W.log stream).writes.received ++ frames payloads }
+{}
