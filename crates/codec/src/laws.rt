@@ -1,13 +1,15 @@
-//! Laws, each as the contract of a function over the calls. A law of calls assumes their exact relations, so no fact of few
-//! words stands in front.
+//! Laws, each as the contract of a function over the calls. What `since_new` says takes both the bytes that a reader handed
+//! out and those that it has left, so no fact of few words stands in front.
 ghost use Rattle.std.specs.Prelude.{◌≡◌, ◌*◌, ◌^◌, ◌≤◌, ℕ, List, [], ◌∷◌, ◌++◌, IfErr, IfOk, IsOk, None, Ok, Option, Result};
 ghost use Rattle.std.specs.List.{flat_map};
 ghost use Rattle.buffer_redux.specs.Block.{Block};
 ghost use Rattle.buffer_redux.specs.BufWriter.{WritesInOrder};
+ghost use Rattle.buffer_redux.specs.Buffered.{Buffered};
 ghost use Rattle.buffer_redux.specs.GrowError.{FitsWithin};
 ghost use Rattle.buffer_redux.specs.MakeError.{growth};
 ghost use Rattle.buffer_redux.specs.Sparing.{MovedAtMostGiven};
 ghost use Rattle.buffer_redux.specs.Unbuffer.{StreamWent, unbuffered};
+ghost use Rattle.buffer_redux.specs.declared.policy.StdPolicy.{StdPolicy};
 ghost use Rattle.codec.specs.Encoding.{all_coded};
 ghost use Rattle.piece_reader.specs.KnownPayloads.{AnswersKnown};
 ghost use Rattle.piece_reader.specs.NextPiece.{NextAnswer, PiecesWent};
@@ -56,7 +58,10 @@ pub fn since_new<R: TellRead, D: Decoder>(reader: &PieceReader<R, D>)
 /// Since the writer was made, what the stream received, then what is buffered, is the pieces of the payloads that were taken
 /// in: so no piece was torn, whatever failed.
 pub fn written_since_new<W: TellWrite, E: Encoder>(writer: &PieceWriter<W, E>)
-    ensures { (least : ℕ) (stream : W) (maker : E) (first : WriterState W E) (payloads : List (List ℕ))
+    ensures in_order { (first : Buffered W StdPolicy) (bytes : List ℕ) → first.block.bytes ≡ []
+        → WritesInOrder first bytes writer.now.writer
+        → writer.now.writer.log.writes.received ++ writer.now.writer.block.bytes ≡ first.log.writes.received ++ bytes }
+    ensures exact { (least : ℕ) (stream : W) (maker : E) (first : WriterState W E) (payloads : List (List ℕ))
         → IsUnused W.log least (E.encoding maker).most stream maker first
         → PiecesTaken W.trace (E.encoding maker) first payloads writer.now
         → writer.now.writer.log.writes.received ++ unsent writer.now

@@ -1,7 +1,10 @@
-//! Laws, each as the contract of a function over the calls. A law of calls assumes their exact relations, so no fact of few
-//! words stands in front.
-ghost use Rattle.std.specs.Prelude.{◌≡◌, ℕ, ◌+◌, ◌<◌, ◌^◌, List, ◌++◌, length};
+//! Laws, each as the contract of a function over the calls. What `since_new` says takes both the frames that a reader handed
+//! out and what it has left, so no fact of few words stands in front.
+ghost use Rattle.std.specs.Prelude.{◌≡◌, ℕ, ◌+◌, ◌<◌, ◌^◌, List, [], ◌++◌, length};
+ghost use Rattle.buffer_redux.specs.BufWriter.{WritesInOrder};
+ghost use Rattle.buffer_redux.specs.Buffered.{Buffered};
 ghost use Rattle.buffer_redux.specs.Sparing.{MovedAtMostGiven};
+ghost use Rattle.buffer_redux.specs.declared.policy.StdPolicy.{StdPolicy};
 ghost use Rattle.codec.specs.PieceWriter.{WriterState, IsUnused, unsent};
 ghost use Rattle.codec.specs.PieceReader.{ReaderState, IsFresh, rest};
 ghost use Rattle.codec.specs.WritePiece.{PiecesTaken};
@@ -53,7 +56,10 @@ pub fn since_new<R: TellRead>(reader: &FrameReader<R>)
 /// Since the writer was made, what the stream received, then what is buffered, is the frames of the payloads that were
 /// taken in: so no frame was torn, whatever failed.
 pub fn written_since_new<W: TellWrite>(writer: &FrameWriter<W>)
-    ensures { (least : ℕ) (stream : W) (first : WriterState W Frames) (payloads : List (List ℕ))
+    ensures in_order { (first : Buffered W StdPolicy) (bytes : List ℕ) → first.block.bytes ≡ []
+        → WritesInOrder first bytes writer.now.writer
+        → writer.now.writer.log.writes.received ++ writer.now.writer.block.bytes ≡ first.log.writes.received ++ bytes }
+    ensures exact { (least : ℕ) (stream : W) (first : WriterState W Frames) (payloads : List (List ℕ))
         → IsUnused W.log least (2 + first.encoder.max) stream first.encoder first
         → PiecesTaken W.trace (framed_out first.encoder.max) first payloads writer.now
         → writer.now.writer.log.writes.received ++ unsent writer.now
