@@ -6,7 +6,7 @@ use Rattle.codec.specs.Delimited.{delimited}
 use Rattle.codec.specs.Ended.{ended}
 use Rattle.codec.specs.FirstByte.{SaidAs, either, either_looks, either_notes}
 use Rattle.codec.specs.Grammar.{Grammar}
-use Rattle.codec.specs.HeaderFormat.{AsksWhole, length_prefixed}
+use Rattle.codec.specs.HeaderFormat.{AsksPayload, length_prefixed}
 use Rattle.codec.specs.Looking.{LookTells}
 use Rattle.codec.specs.Number.{with_byte}
 use Rattle.codec.specs.Scanning.{scan_notes, scanned}
@@ -42,9 +42,9 @@ resp max = either 36 (length_prefixed (scanned (nullable max))) (ended (resp_lin
 abbrev pub resp_notes : ℕ → List ℕ → ScanNote StringState × Unit {0} → Type 0
 resp_notes max = either_notes 36 (scan_notes (nullable max)) (λ bytes note. Unit {0})
 
--- what its looks tell: once the header of a string is there, that asks for the whole piece
+-- what its looks tell: once the header of a string is there, that asks for its payload
 abbrev pub resp_looks : ℕ → LookTells (EitherWrong HeaderError (Unended TooLong))
-resp_looks max = either_looks 36 (λ bytes seen is. OnMore is (AsksWhole (scanned (nullable max)) bytes))
+resp_looks max = either_looks 36 (λ bytes seen is. OnMore is (AsksPayload (scanned (nullable max)) bytes))
     (λ bytes seen. SaidAs (λ e. unended.Wrong e) (λ said. Unit {0}))
 
 -- a line ends with this byte, which is LF, or CR with LF behind it

@@ -60,7 +60,7 @@ impl Scan for KindVarints {
 
 impl Decoder for KindVarints {
     ghost use Rattle.codec.specs.Decoding.{OnMore};
-    ghost use Rattle.codec.specs.HeaderFormat.{AsksWhole};
+    ghost use Rattle.codec.specs.HeaderFormat.{AsksPayload};
     ghost use Rattle.codec.specs.Scanning.{scan_notes, scanned};
     ghost use Rattle.decoders.specs.Varints.{kind_varints, kind_pieces};
     ghost use Rattle.decoders.specs.VarintsLaws.{kind_pieces_lawful};
@@ -73,7 +73,7 @@ impl Decoder for KindVarints {
 
     ghost notes = { λ d. scan_notes (kind_varints d.max) };
 
-    ghost looks = { λ d bytes _ found. OnMore found (AsksWhole (scanned (kind_varints d.max)) bytes) };
+    ghost looks = { λ d bytes _ found. OnMore found (AsksPayload (scanned (kind_varints d.max)) bytes) };
 
     fn most(&self) -> usize {
         ByHeader(ByScan(*self)).most()

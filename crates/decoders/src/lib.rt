@@ -1,6 +1,6 @@
 //! Decoders that are ready, and encoders: pieces whose payload has its length in front, in bytes or in text.
 //!
-//! A length above the greatest is refused before memory is taken, a byte is waited for or anything is added to it.
+//! A length above the greatest is refused before the payload is waited for, and before anything is added to the length.
 #![tactic(auto)]
 
 mod bulk_strings;

@@ -1,5 +1,5 @@
 -- Pieces that have a header.
-use Rattle.std.specs.Prelude.{◌≡◌, ℕ, ◌+◌, ◌<◌, ◌≤◌, ◌^◌, List, [], ◌++◌, length, take, drop}
+use Rattle.std.specs.Prelude.{◌≡◌, ℕ, ◌+◌, ◌<◌, ◌≤◌, ◌^◌, List, [], ◌++◌, length, max, min, take, drop}
 use Rattle.piece_reader.specs.declared.header.Header.{Header}
 use Rattle.piece_reader.specs.declared.header.Header.TheVariants.{Short, Sized, Bad}
 use Rattle.piece_reader.specs.declared.header_error.HeaderError.{HeaderError}
@@ -28,9 +28,14 @@ pub record IsHeaderFormat (h : HeaderFormat) : Type 0 where
   pub nothing : h.header [] ≡ Short
   pub small : h.most_header + h.max + length h.tail < 2 ^ 63
 
--- once the header is there, these bytes want as many as the whole piece has
-abbrev pub AsksWhole : HeaderFormat → List ℕ → ℕ → Type 0
-AsksWhole h bytes n = (len used : ℕ) → h.header bytes ≡ Sized len used → n ≡ used + len + length h.tail
+-- once the header is there, these bytes want the payload and the first byte of the tail, and then one byte more
+abbrev pub AsksPayload : HeaderFormat → List ℕ → ℕ → Type 0
+AsksPayload h bytes n = (len used : ℕ) → h.header bytes ≡ Sized len used
+    → n ≡ max (1 + length bytes) (used + len + min (length h.tail) 1)
+
+-- however the bytes go on, something else stands where the tail should
+abbrev pub NeverFollows : List ℕ → ℕ → List ℕ → Type 0
+NeverFollows tail at bytes = (more : List ℕ) → ¬ (take (length tail) (drop at (bytes ++ more)) ≡ tail)
 
 -- a fact where a header may come still, or is there
 abbrev pub UnlessBad : Header → Type 0 → Type 0
@@ -43,8 +48,7 @@ abbrev pub BeginsNone : HeaderFormat → List ℕ → HeaderError → Type 0
 BeginsNone h bytes NoHeader = h.header bytes ≡ Bad
 BeginsNone h bytes (TooLong len) = (used : ℕ) × (h.header bytes ≡ Sized len used) × (h.max < len)
 BeginsNone h bytes NoTail =
-    (len : ℕ) × (used : ℕ) × (h.header bytes ≡ Sized len used) × (len ≤ h.max)
-    × (used + len + length h.tail ≤ length bytes) × ¬ (take (length h.tail) (drop (used + len) bytes) ≡ h.tail)
+    (len : ℕ) × (used : ℕ) × (h.header bytes ≡ Sized len used) × (len ≤ h.max) × NeverFollows h.tail (used + len) bytes
 BeginsNone h bytes (Truncated have) = ⊥
 
 -- a piece is a header, the payload that it says, and the tail

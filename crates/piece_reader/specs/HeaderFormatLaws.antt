@@ -1,15 +1,16 @@
 -- Laws of pieces that have a header.
-use Rattle.std.specs.Prelude.{◌≡◌, ℕ, ◌+◌, ◌≤◌, List, [], ◌++◌, length, take, drop}
-use Rattle.std.proofs.Common.{sym, ap, subst, ◌∙◌, arith, refl, append_assoc, length-append, length-drop, length-take-le}
+use Rattle.std.specs.Prelude.{◌≡◌, ℕ, ◌+◌, ◌-◌, ◌<◌, ◌≤◌, List, [], ◌++◌, length, max, min, replicate, take, drop}
+use Rattle.std.proofs.Common.{sym, ap, subst, ◌∙◌, arith, inl, inr, refl, append_assoc, length-append, length-drop, length-take-le}
 use Rattle.std.proofs.Math.Seq.{take-add, take-append_seam}
-use Rattle.std.proofs.lemmas.List.{drop-append-le, drop-drop, drop_at, take-append-le}
+use Rattle.std.proofs.lemmas.Bool.{cases_lt}
+use Rattle.std.proofs.lemmas.List.{append-nil, drop-append-le, drop-drop, drop_at, length-replicate, nil_from_length, take_all}
 use Rattle.piece_reader.specs.declared.header.Header.{Header}
 use Rattle.piece_reader.specs.declared.header.Header.TheVariants.{Short, Sized, Bad}
 use Rattle.piece_reader.specs.declared.header_error.HeaderError.{HeaderError}
 use Rattle.piece_reader.specs.declared.header_error.HeaderError.TheVariants.{NoHeader, NoTail, TooLong, Truncated}
 use Rattle.piece_reader.specs.Decoding.{IsPiece}
-use Rattle.piece_reader.specs.Grammar.{IsLawful}
-use Rattle.piece_reader.specs.HeaderFormat.{BeginsNone, HeaderFormat, IsHeaderFormat, length_prefixed}
+use Rattle.piece_reader.specs.Grammar.{IsLawful, IsOpenBelow}
+use Rattle.piece_reader.specs.HeaderFormat.{BeginsNone, HeaderFormat, IsHeaderFormat, NeverFollows, length_prefixed}
 
 sized_same : (n u n' u' : ℕ) (x : Header) → x ≡ Sized n u → x ≡ Sized n' u' → (n ≡ n') × (u ≡ u')
 sized_same n u n' u' x is is' =
@@ -18,6 +19,17 @@ sized_same n u n' u' x is is' =
 
 drop_seam : (xs ys : List ℕ) → drop (length xs) (xs ++ ys) ≡ ys
 drop_seam xs ys = drop_at xs ys (length xs) refl
+
+-- where no byte stands behind a place, anything may
+pub may_follow_early : (tail : List ℕ) (at : ℕ) (bytes : List ℕ) → length bytes ≤ at → ¬ (NeverFollows tail at bytes)
+may_follow_early tail at bytes early never =
+    let fill : List ℕ = replicate (at - length bytes) 0 in
+    let long : length (bytes ++ fill) ≡ at = omega (arith, length-append bytes fill, length-replicate {A = ℕ} (at - length bytes) 0) in
+    never (fill ++ tail) (
+    ap (λ l. take (length tail) (drop at l)) (sym (append_assoc bytes fill tail))
+    ∙ ap (take (length tail)) (drop_at (bytes ++ fill) tail at long)
+    ∙ take_all (length tail) tail (omega arith)
+    )
 
 module _ (h : HeaderFormat) (law : IsHeaderFormat h) where
   -- how many bytes a piece has
@@ -65,7 +77,8 @@ module _ (h : HeaderFormat) (law : IsHeaderFormat h) where
   apart p a more NoTail is lacks =
       let parts = sized_same (length a) is.0 lacks.0 lacks.1 (h.header (p ++ more)) (said p a more is) lacks.2 in
       let there : is.0 + length a ≡ lacks.1 + lacks.0 = omega (arith, parts.0, parts.1) in
-      lacks.5 (subst (λ n. take (length h.tail) (drop n (p ++ more)) ≡ h.tail) there (tail_there p a more is))
+      lacks.4 [] (subst (λ l. take (length h.tail) (drop (lacks.1 + lacks.0) l) ≡ h.tail) (sym (append_assoc p more []))
+      (subst (λ n. take (length h.tail) (drop n (p ++ (more ++ []))) ≡ h.tail) there (tail_there p a (more ++ []) is)))
   apart p a more (Truncated have) is none = none
 
   reason : (bytes : List ℕ) (e e' : HeaderError) → BeginsNone h bytes e → BeginsNone h bytes e' → e ≡ e'
@@ -87,18 +100,14 @@ module _ (h : HeaderFormat) (law : IsHeaderFormat h) where
   stays : (bytes more : List ℕ) (e : HeaderError) → BeginsNone h bytes e → BeginsNone h (bytes ++ more) e
   stays bytes more NoHeader bad = law.bad bytes more bad
   stays bytes more (TooLong len) m = (m.0, law.sized bytes more len m.0 m.1, m.2)
-  stays bytes more NoTail l =
-      let at = l.1 + l.0 in
-      let same : take (length h.tail) (drop at (bytes ++ more)) ≡ take (length h.tail) (drop at bytes) =
-      ap (take (length h.tail)) (drop-append-le at bytes more (omega (arith, l.4)))
-      ∙ take-append-le (length h.tail) (drop at bytes) more (omega (arith, l.4, length-drop at bytes)) in (
-        l.0,
-        l.1,
-        law.sized bytes more l.0 l.1 l.2,
-        l.3,
-        omega (arith, l.4, length-append bytes more),
-        λ is. l.5 (sym same ∙ is),
-      )
+  stays bytes more NoTail l = (
+    l.0,
+    l.1,
+    law.sized bytes more l.0 l.1 l.2,
+    l.3,
+    λ later is. l.4 (more ++ later)
+        (subst (λ l'. take (length h.tail) (drop (l.1 + l.0) l') ≡ h.tail) (append_assoc bytes more later) is),
+  )
   stays bytes more (Truncated have) none = none
 
   nothing : (e : HeaderError) → ¬ (BeginsNone h [] e)
@@ -118,6 +127,35 @@ module _ (h : HeaderFormat) (law : IsHeaderFormat h) where
     nothing = nothing;
     one_last = λ bytes a b is is'. absurd is;
     end_apart = λ bytes a e is cut. is;
+  }
+
+  -- where the header is there, and the tail isn't, but may come
+  pub length_prefixed_open : (bytes : List ℕ) (len used : ℕ) → h.header bytes ≡ Sized len used → len ≤ h.max
+      → length bytes < used + len + length h.tail → ¬ (NeverFollows h.tail (used + len) bytes)
+      → IsOpenBelow (length_prefixed h) (max (1 + length bytes) (used + len + min (length h.tail) 1)) bytes
+  length_prefixed_open bytes len used is fits short may more few = record {
+    no_piece = λ b.
+        let parts = sized_same len used (length b.payload) b.is.0 (h.header (bytes ++ more)) (law.sized bytes more len used is)
+        (ap h.header b.equal ∙ said b.piece b.payload b.more b.is) in
+        omega (arith, size b.piece b.payload b.is, parts.0, parts.1, ap length b.equal, length-append b.piece b.more, few, short);
+    not_wrong = λ e. elim e as (λ e. ¬ (BeginsNone h (bytes ++ more) e)) [
+      | NoHeader ↦ λ bad. (let odd : Sized len used ≡ Bad = sym (law.sized bytes more len used is) ∙ bad in cc)
+      | TooLong much ↦ λ m.
+          let parts = sized_same len used much m.0 (h.header (bytes ++ more)) (law.sized bytes more len used is) m.1 in
+          omega (arith, fits, m.2, parts.0)
+      | NoTail ↦ λ l.
+          let parts = sized_same len used l.0 l.1 (h.header (bytes ++ more)) (law.sized bytes more len used is) l.2 in
+          let there : l.1 + l.0 ≡ used + len = omega (arith, parts.0, parts.1) in
+          let never : NeverFollows h.tail (used + len) (bytes ++ more) =
+          subst (λ n. NeverFollows h.tail n (bytes ++ more)) there l.4 in
+          elim (cases_lt (used + len) (length (bytes ++ more))) [
+            | inl late ↦
+                let none : more ≡ [] = nil_from_length more (omega (arith, few, late, length-append bytes more)) in
+                may (subst (λ l'. NeverFollows h.tail (used + len) l') (ap (λ m. bytes ++ m) none ∙ append-nil bytes) never)
+            | inr early ↦ may_follow_early h.tail (used + len) (bytes ++ more) early never
+          ]
+      | Truncated have ↦ λ none. none
+    ];
   }
 
   -- where all is there

@@ -1,5 +1,6 @@
 //! The decoder of pieces that have a header.
-ghost use Rattle.std.specs.Prelude.{◌≡◌, ◌↔◌, ◌≤◌, IsTrue, length, take};
+ghost use Rattle.std.specs.Prelude.{◌≡◌, ◌↔◌, ◌+◌, ◌<◌, ◌≤◌, IsTrue, false, length, take};
+ghost use Rattle.piece_reader.specs.HeaderFormat.{NeverFollows};
 
 use crate::decoder::{Decoder, End, Found, Span};
 use crate::header::Header;
@@ -7,13 +8,14 @@ use crate::header_error::HeaderError;
 use crate::length_prefixed::LengthPrefixed;
 
 /// The decoder of pieces that have a header. A length above the greatest is refused before anything is added to it. Once the
-/// header is there, it asks for the whole piece.
+/// header is there, it asks for the payload and the first byte of the tail, and then for one more at a time, and refuses the first
+/// that stands in no tail.
 #[derive(Clone, Copy, Debug, Drop)]
 pub struct ByHeader<H: LengthPrefixed>(pub H);
 
 impl<H: LengthPrefixed> Decoder for ByHeader<H> {
     ghost use Rattle.piece_reader.specs.Decoding.{Decodes, OnMore};
-    ghost use Rattle.piece_reader.specs.HeaderFormat.{AsksWhole, length_prefixed};
+    ghost use Rattle.piece_reader.specs.HeaderFormat.{AsksPayload, length_prefixed};
     ghost use Rattle.piece_reader.specs.HeaderFormatLaws.{length_prefixed_lawful};
 
     type Wrong = HeaderError;
@@ -24,7 +26,7 @@ impl<H: LengthPrefixed> Decoder for ByHeader<H> {
 
     ghost notes = { λ d. H.notes d.0 };
 
-    ghost looks = { λ d bytes _ found. OnMore found (AsksWhole (H.header_format d.0) bytes) };
+    ghost looks = { λ d bytes _ found. OnMore found (AsksPayload (H.header_format d.0) bytes) };
 
     fn most(&self) -> usize {
         self.0.most_header() + self.0.max() + self.0.tail().len()
@@ -41,7 +43,7 @@ impl<H: LengthPrefixed> Decoder for ByHeader<H> {
         requires noted { H.notes self.now.0 (take seen bytes.now) note.old }
         ensures finds { Decodes (length_prefixed (H.header_format self.now.0)) bytes.now result }
         ensures leaves { OnMore result (λ _. H.notes self.now.0 bytes.now note.new) }
-        ensures looks { OnMore result (AsksWhole (H.header_format self.now.0) bytes.now) }
+        ensures looks { OnMore result (AsksPayload (H.header_format self.now.0) bytes.now) }
     {
         match self.0.header(bytes, seen, note) {
             Header::Short => Found::More(1 + bytes.len()),
@@ -53,7 +55,10 @@ impl<H: LengthPrefixed> Decoder for ByHeader<H> {
                 let tail = self.0.tail();
                 let whole = used + len + tail.len();
                 if bytes.len() < whole {
-                    return Found::More(whole);
+                    if !may_follow(bytes, used + len, tail) {
+                        return Found::Wrong(HeaderError::NoTail);
+                    }
+                    return Found::More((1 + bytes.len()).max(used + len + tail.len().min(1)));
                 }
                 let found = &bytes[used + len..whole];
                 if !is_tail(found, tail) {
@@ -69,6 +74,15 @@ impl<H: LengthPrefixed> Decoder for ByHeader<H> {
     }
 
     ghost lawful = { λ d. length_prefixed_lawful (H.header_format d.0) (H.headers d.0) };
+}
+
+// Whether the tail may come behind so many bytes, where not all of it is there.
+fn may_follow(bytes: &[u8], at: usize, tail: &[u8]) -> bool
+    requires part { length bytes.now < at + length tail.now }
+    ensures may { IsTrue result → ¬ (NeverFollows tail.now at bytes.now) }
+    ensures never { result ≡ false → NeverFollows tail.now at bytes.now }
+{
+    bytes.len() <= at || tail.starts_with(&bytes[at..])
 }
 
 // Whether these are the bytes that stand behind a payload.

@@ -65,7 +65,8 @@ static STRINGS: [Row<'static>; 5] = [
     (b"$2\r\n\r\n\r\n", b"n=\r\n|n=end|"),
     (b"$-1\r\n", b"n=NoHeader|"),
     (b"$1\na\r\n", b"n=NoHeader|"),
-    (b"$1\r\na\n\r", b"n=NoTail|"),
+    // Wrong at the first byte that isn't the tail's.
+    (b"$1\r\na\n", b"n=NoTail|"),
 ];
 
 static ONE: [Row<'static>; 1] = [(b"\x02hi\0\x04", b"n=hi|n=|n=TooLong(4)|r=\x04|")];
