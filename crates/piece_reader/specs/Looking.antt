@@ -2,12 +2,17 @@
 use Rattle.std.specs.Prelude.{◌≡◌, ℕ, zero, suc, ◌<◌, ◌≤◌, List, ◌++◌, length}
 use Rattle.piece_reader.specs.declared.decoder.Found.{Found}
 use Rattle.piece_reader.specs.declared.decoder.Found.TheVariants.{Piece, More, Wrong}
-use Rattle.piece_reader.specs.Decoding.{OnMore}
+use Rattle.piece_reader.specs.Decoding.{Decodes, OnMore}
+use Rattle.piece_reader.specs.Grammar.{Grammar}
 use Rattle.piece_reader.specs.PieceReader.{ReaderState, rest}
 
 -- what a decoder tells of a look at these bytes, the first so many of which were looked at before
 abbrev pub LookTells : Type 0 → Type 1
 LookTells W = List ℕ → ℕ → Found W → Type 0
+
+-- what a look says: what its answer means, and what the decoder tells beside that
+abbrev pub LookSays : {D W : Type 0} → (D → Grammar W) → (D → LookTells W) → D → LookTells W
+LookSays grammar looks d bytes seen found = Decodes (grammar d) bytes found × looks d bytes seen found
 
 -- so many looks, behind one at the first bytes that asked for this many: each begins where the one before ended, once as many
 -- bytes had come as that asked for; and what the last one answered, and of which bytes

@@ -10,7 +10,7 @@ ghost use Rattle.piece_reader.specs.contracts.reader.PieceReader.{the_row};
 ghost use Rattle.piece_reader.specs.declared.error.NextError.TheVariants.{Wrong};
 ghost use Rattle.piece_reader.specs.Decoding.{IsLent, bytes_at};
 ghost use Rattle.piece_reader.specs.Grammar.{IsOpenBelow};
-ghost use Rattle.piece_reader.specs.Looking.{LooksFromLast, LooksAtRest, LooksForMore};
+ghost use Rattle.piece_reader.specs.Looking.{LookSays, LooksFromLast, LooksAtRest, LooksForMore};
 ghost use Rattle.piece_reader.specs.PieceReader.{IsOver, IsPieceReader, IsFresh, Skips, TakenApart, left_of, rest, room_for};
 ghost use Rattle.piece_reader.specs.NextPiece.{NextBuffered, NextPiece, buffered_answer, load_answer};
 
@@ -316,7 +316,7 @@ impl<R: TellRead, D: Decoder> PieceReader<R, D> {
             → load_answer result self.new ≡ Err (NextError.Wrong e) }
         ensures ended { self.old.ended ≡ true → load_answer result self.new ≡ Ok None }
         ensures kept { OnErr result (HandsOutInOrder (left_of self.old) [] (left_of self.new)) }
-        ensures looked { LooksFromLast D.looks self.old self.new }
+        ensures looked { LooksFromLast (LookSays D.grammar D.looks) self.old self.new }
         ensures next { NextPiece R.remaining (D.grammar self.old.decoder) self.old (load_answer result self.new) self.new }
     {
         let at = self.handed;
@@ -336,7 +336,7 @@ impl<R: TellRead, D: Decoder> PieceReader<R, D> {
     #[inline(always)]
     pub fn step_buffered(&mut self) -> Option<Span>
         ensures lends { IfSome result (IsLent (D.grammar self.new.decoder) self.new.handed self.new.reader.block.bytes) }
-        ensures looked { LooksAtRest D.looks self.old }
+        ensures looked { LooksAtRest (LookSays D.grammar D.looks) self.old }
         ensures next { NextBuffered R.remaining (D.grammar self.old.decoder) self.old
             (buffered_answer result self.new) self.new }
     {
@@ -364,7 +364,7 @@ impl<R: TellRead, D: Decoder> PieceReader<R, D> {
             (IsLent (D.grammar self.new.decoder) self.new.handed self.new.reader.block.bytes)) }
         ensures front { IfOk result (λ found. IfSome found (λ _.
             HandsOutInOrder (left_of self.old) (take self.new.handed self.new.reader.block.bytes) (left_of self.new))) }
-        ensures looked { LooksForMore D.looks self.old need self.new }
+        ensures looked { LooksForMore (LookSays D.grammar D.looks) self.old need self.new }
         ensures next { NextPiece R.remaining (D.grammar self.old.decoder) self.old (load_answer result self.new) self.new }
     {
         self.drop_handed();

@@ -1,7 +1,7 @@
 //! Whether the stream is asked next, and one ask of it.
 ghost use Rattle.std.specs.Prelude.{◌≡◌, ◌<◌, ◌↔◌, [], length, Ok, IsTrue, true, false};
 ghost use Rattle.piece_reader.specs.Grammar.{Begins};
-ghost use Rattle.piece_reader.specs.Looking.{LooksAtRest};
+ghost use Rattle.piece_reader.specs.Looking.{LookSays, LooksAtRest};
 ghost use Rattle.piece_reader.specs.NextPiece.{Refills};
 ghost use Rattle.piece_reader.specs.PieceReader.{IsSettled, rest};
 
@@ -15,7 +15,7 @@ impl<R: Tell, D: Decoder> PieceReader<R, D> {
     /// changes nothing, so what it looks at is looked at again.
     pub fn has_piece(&self) -> bool
         ensures none { rest self.now ≡ [] → result ≡ false }
-        ensures looked { LooksAtRest D.looks self.now }
+        ensures looked { LooksAtRest (LookSays D.grammar D.looks) self.now }
         ensures buffered { IsTrue result ↔ Begins (D.grammar self.now.decoder) (rest self.now) }
     {
         let mut note = self.note;
@@ -29,7 +29,7 @@ impl<R: Tell, D: Decoder> PieceReader<R, D> {
     /// none, or the stream ended, which no call has told yet. It changes nothing, so what it looks at is looked at again.
     pub fn is_settled(&self) -> bool
         ensures none { rest self.now ≡ [] → result ≡ self.now.ended }
-        ensures looked { self.now.ended ≡ false → LooksAtRest D.looks self.now }
+        ensures looked { self.now.ended ≡ false → LooksAtRest (LookSays D.grammar D.looks) self.now }
         ensures settled { IsTrue result ↔ IsSettled (D.grammar self.now.decoder) self.now }
     {
         if self.ended {

@@ -4,7 +4,7 @@ ghost use Rattle.buffer_redux.specs.Unbuffer.{HandsOutInOrder};
 ghost use Rattle.piece_reader.specs.Decoding.{IsLent};
 ghost use Rattle.piece_reader.specs.Grammar.{Begins};
 ghost use Rattle.piece_reader.specs.Items.{IsWhole, NextItem};
-ghost use Rattle.piece_reader.specs.Looking.{LooksFromLast, LooksAtRest};
+ghost use Rattle.piece_reader.specs.Looking.{LookSays, LooksFromLast, LooksAtRest};
 ghost use Rattle.piece_reader.specs.NextPiece.{StaysLeft};
 ghost use Rattle.piece_reader.specs.PieceReader.{left_of, rest};
 
@@ -21,7 +21,7 @@ impl<R: TellRead, D: Items> PieceReader<R, D> {
         ensures lends { IfOk result (λ found. IfSome found (λ said.
             IsLent (D.grammar self.new.decoder) self.new.handed self.new.reader.block.bytes said.1)) }
         ensures kept { OnErr result (HandsOutInOrder (left_of self.old) [] (left_of self.new)) }
-        ensures looked { LooksFromLast D.looks self.old self.new }
+        ensures looked { LooksFromLast (LookSays D.grammar D.looks) self.old self.new }
         ensures next { NextItem R.remaining (D.grammar self.old.decoder) (D.item_of self.old.decoder) self.old
             result self.new }
     {
@@ -55,7 +55,7 @@ impl<R: TellRead, D: Items> PieceReader<R, D> {
     pub fn step_item_buffered(&mut self) -> Option<(D::Item, Span)>
         ensures lends { IfSome result (λ said.
             IsLent (D.grammar self.new.decoder) self.new.handed self.new.reader.block.bytes said.1) }
-        ensures looked { LooksAtRest D.looks self.old }
+        ensures looked { LooksAtRest (LookSays D.grammar D.looks) self.old }
         ensures inside { self.new.reader ≡ self.old.reader }
         ensures stays { IfNone result (StaysLeft (D.grammar self.old.decoder) self.old self.new) }
         ensures none { IfNone result (¬ (Begins (D.grammar self.old.decoder) (rest self.old))) }

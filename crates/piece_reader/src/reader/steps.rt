@@ -3,7 +3,7 @@ ghost use Rattle.std.specs.Prelude.{◌≡◌, ◌<◌, ◌≤◌, [], length, t
 ghost use Rattle.buffer_redux.specs.Unbuffer.{HandsOutInOrder};
 ghost use Rattle.piece_reader.specs.Decoding.{IsLent};
 ghost use Rattle.piece_reader.specs.Grammar.{IsOpen, IsOpenBelow};
-ghost use Rattle.piece_reader.specs.Looking.{LooksForMore};
+ghost use Rattle.piece_reader.specs.Looking.{LookSays, LooksForMore};
 ghost use Rattle.piece_reader.specs.NextPiece.{NextPiece, PiecesWent, load_answer};
 ghost use Rattle.piece_reader.specs.PieceReader.{IsPieceReader, left_of, rest};
 ghost use Rattle.piece_reader.specs.Steps.{AsksFor, Takes, TakesEnd};
@@ -20,7 +20,7 @@ impl<R: Tell, D: Decoder> PieceReader<R, D> {
     #[inline(always)]
     pub(super) fn take(&mut self) -> Found<D::Wrong>
         ensures takes { Takes (D.grammar self.old.decoder) self.old result self.new }
-        ensures looks { D.looks self.old.decoder (rest self.old) self.old.seen result }
+        ensures looks { LookSays D.grammar D.looks self.old.decoder (rest self.old) self.old.seen result }
         ensures before { IsPieceReader (D.grammar self.old.decoder) self.old }
         ensures whole { IsPieceReader (D.grammar self.old.decoder) self.new }
     {
@@ -77,7 +77,7 @@ impl<R: TellRead, D: Decoder> PieceReader<R, D> {
         requires most { need ≤ (D.grammar self.old.decoder).most }
         requires lacks { IsOpenBelow (D.grammar self.old.decoder) need (rest self.old) }
         requires looked { self.old.seen ≡ length (rest self.old) }
-        ensures looked { LooksForMore D.looks self.old need self.new }
+        ensures looked { LooksForMore (LookSays D.grammar D.looks) self.old need self.new }
         ensures next { NextPiece R.remaining (D.grammar self.old.decoder) self.old
             (load_answer result self.new) self.new }
         ensures lends { IfOk result (λ found. IfSome found
@@ -95,7 +95,7 @@ impl<R: TellRead, D: Decoder> PieceReader<R, D> {
         requires most { need ≤ (D.grammar self.old.decoder).most }
         requires lacks { IsOpenBelow (D.grammar self.old.decoder) need (rest self.old) }
         requires looked { self.old.seen ≡ length (rest self.old) }
-        ensures looked { LooksForMore D.looks self.old need self.new }
+        ensures looked { LooksForMore (LookSays D.grammar D.looks) self.old need self.new }
         ensures next { NextPiece R.remaining (D.grammar self.old.decoder) self.old
             (load_answer result self.new) self.new }
         ensures lends { IfOk result (λ found. IfSome found

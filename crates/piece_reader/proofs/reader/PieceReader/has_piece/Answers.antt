@@ -1,6 +1,7 @@
 -- Where a piece was found what is left begins with it, and no bytes begin with a piece.
 use Rattle.std.proofs.Common.{ap, refl}
 use Rattle.piece_reader.specs.GrammarLaws.{begins_none}
+use Rattle.piece_reader.specs.Looking.{LookSays}
 use Rattle.piece_reader.proofs.Buffered.{found_begins, looked_rest}
 use Rattle.piece_reader.proofs.reader.PieceReader.has_piece.Goals as goal
 
@@ -11,6 +12,7 @@ returns-in-Piece g c =
     c.in-Piece.ensures.finds in
     record {
       none = λ none. absurd (begins_none (g.D.Decoder.grammar s.decoder) (g.met.D.Decoder.lawful s.decoder) begins none);
-      looked = looked_rest g.D.Decoder.looks _ c.self.view_is c.rest.ensures.value c.in-Piece.ensures.looks;
+      looked = looked_rest (LookSays g.D.Decoder.grammar g.D.Decoder.looks) _ c.self.view_is c.rest.ensures.value
+          (c.in-Piece.ensures.finds, c.in-Piece.ensures.looks);
       buffered = (λ _. begins, λ _. refl);
     }

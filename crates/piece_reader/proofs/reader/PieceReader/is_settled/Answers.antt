@@ -2,6 +2,7 @@
 use Rattle.std.proofs.Common.{◌≡◌, ap, false, inl, inr, refl, subst, sym, true, ◌∙◌}
 use Rattle.piece_reader.specs.Grammar.{IsOpen}
 use Rattle.piece_reader.specs.GrammarLaws.{begins_none, open_of}
+use Rattle.piece_reader.specs.Looking.{LookSays}
 use Rattle.piece_reader.specs.PieceReader.{rest}
 use Rattle.piece_reader.proofs.Buffered.{found_begins, looked_rest}
 use Rattle.piece_reader.proofs.reader.PieceReader.is_settled.Goals as goal
@@ -13,7 +14,8 @@ returns-in-Piece g c =
     c.in-Piece.ensures.finds in
     record {
       none = λ none. absurd (begins_none (g.D.Decoder.grammar s.decoder) (g.met.D.Decoder.lawful s.decoder) begins none);
-      looked = λ _. looked_rest g.D.Decoder.looks _ c.self.view_is c.rest.ensures.value c.in-Piece.ensures.looks;
+      looked = λ _. looked_rest (LookSays g.D.Decoder.grammar g.D.Decoder.looks) _ c.self.view_is c.rest.ensures.value
+          (c.in-Piece.ensures.finds, c.in-Piece.ensures.looks);
       settled = (λ _. inr (inl begins), λ _. refl);
     }
 

@@ -43,5 +43,5 @@ returns-in-Piece-clause-lends g c =
 
 pub returns-in-More-clause-looked : goal.returns-in-More-clause-looked
 returns-in-More-clause-looked g c =
-    looks_on g.D.Decoder.looks c.args.self.now c.take.new.self c.load_apart.new.self c.in-More.need c.in-More.ensures.looks
+    looks_on _ c.args.self.now c.take.new.self c.load_apart.new.self c.in-More.need c.in-More.ensures.looks
     c.in-More.ensures.takes.3 c.load_apart.ensures.looked

@@ -70,7 +70,7 @@ returns-in-Ok-None g c =
     record {
       lends = tt;
       kept = tt;
-      looked = looks_on g.D.Decoder.looks s m t c.in-More.need c.in-More.ensures.looks c.in-More.ensures.takes.3
+      looked = looks_on _ s m t c.in-More.need c.in-More.ensures.looks c.in-More.ensures.takes.3
           c.load_apart.ensures.looked;
       next = record {
         next = next_looked remaining g.D.Decoder.grammar s m t c.in-More.need (Ok None) c.take.ensures.before
@@ -94,7 +94,7 @@ returns-in-Err g c =
     record {
       lends = tt;
       kept = NextPiece-kept remaining (g.D.Decoder.grammar s.decoder) s t (Err c.in-Err.e) next;
-      looked = looks_on g.D.Decoder.looks s m t c.in-More.need c.in-More.ensures.looks c.in-More.ensures.takes.3
+      looked = looks_on _ s m t c.in-More.need c.in-More.ensures.looks c.in-More.ensures.takes.3
           c.load_apart.ensures.looked;
       next = record { next = next; says = tt };
     }
@@ -110,5 +110,5 @@ returns-in-Wrong-clause-next g c =
 
 pub returns-in-Ok-Some-clause-looked : goal.returns-in-Ok-Some-clause-looked
 returns-in-Ok-Some-clause-looked g c =
-    looks_on g.D.Decoder.looks c.args.self.now c.take.new.self c.load_apart.new.self c.in-More.need c.in-More.ensures.looks
+    looks_on _ c.args.self.now c.take.new.self c.load_apart.new.self c.in-More.need c.in-More.ensures.looks
     c.in-More.ensures.takes.3 c.load_apart.ensures.looked

@@ -2,6 +2,7 @@
 use Rattle.std.proofs.Common.{Err, [], ap, false, refl, subst, sym, true, ◌∙◌}
 use Rattle.piece_reader.specs.declared.decoder.Found.TheVariants.{Piece, More, Wrong}
 use Rattle.piece_reader.specs.Grammar.{IsOpen}
+use Rattle.piece_reader.specs.Looking.{LookSays}
 use Rattle.piece_reader.specs.PieceReader.{IsPieceReader, rest}
 use Rattle.piece_reader.specs.PiecesWentLaws.{PiecesWent-joins}
 use Rattle.piece_reader.specs.Steps.{AsksFor, TakesEnd}
@@ -25,7 +26,7 @@ returns-in-Err g c =
     record {
       lends = tt;
       front = tt;
-      looked = looked_end g.D.Decoder.looks s c.args.need remaining (grammar s.decoder) m t t c.turns.need inv.0 inv.1 asked
+      looked = looked_end _ s c.args.need remaining (grammar s.decoder) m t t c.turns.need inv.0 inv.1 asked
           (asked.failed c.in-Err.e refl).0 refl;
       next = load_fails remaining (grammar s.decoder) law s m c.turns.need inv.0 c.in-Err.e t asked;
     }
@@ -51,7 +52,7 @@ returns-in-Ok-false g c =
       front = hands_last s t v remaining (grammar s.decoder).most (grammar t.decoder)
           (PiecesWent-joins remaining (grammar s.decoder).most s m t [] [] inv.0.header.went asked.went) asked.handed
           c.take_end.result ends.takes;
-      looked = looked_end g.D.Decoder.looks s c.args.need remaining (grammar s.decoder) m t v need inv.0 inv.1 asked
+      looked = looked_end _ s c.args.need remaining (grammar s.decoder) m t v need inv.0 inv.1 asked
           (asked.end refl).0 (end_inside (grammar t.decoder) t v c.take_end.result ends.takes);
       next = load_finished remaining (grammar s.decoder) law s m need inv.0 t asked c.take_end.result v
           (subst (λ d. TakesEnd (grammar d) t c.take_end.result v) decoder ends.takes)
@@ -62,7 +63,7 @@ pub returns-in-Piece : goal.returns-in-Piece
 returns-in-Piece g c =
     let remaining = g.R.TellRead.remaining in
     let grammar = g.D.Decoder.grammar in
-    let looks = g.D.Decoder.looks in
+    let looks = LookSays g.D.Decoder.grammar g.D.Decoder.looks in
     let s = c.args.self.now in
     let m = c.turns.self in
     let t = c.read_to.new.self in
@@ -90,7 +91,7 @@ pub returns-in-Wrong : goal.returns-in-Wrong
 returns-in-Wrong g c =
     let remaining = g.R.TellRead.remaining in
     let grammar = g.D.Decoder.grammar in
-    let looks = g.D.Decoder.looks in
+    let looks = LookSays g.D.Decoder.grammar g.D.Decoder.looks in
     let s = c.args.self.now in
     let m = c.turns.self in
     let t = c.read_to.new.self in
@@ -115,6 +116,7 @@ pub turns-preserved : goal.turns-preserved
 turns-preserved g c =
     let remaining = g.R.TellRead.remaining in
     let grammar = g.D.Decoder.grammar in
+    let looks = LookSays g.D.Decoder.grammar g.D.Decoder.looks in
     let s = c.args.self.now in
     let m = c.turns.self in
     let t = c.read_to.new.self in
@@ -127,7 +129,7 @@ turns-preserved g c =
     let asked = asked_as remaining grammar s m t need _ true c.in-Ok-true.field-0-test inv.0.header.went.decoder
     c.in-Ok-true.ensures in (
       loads_on remaining (grammar s.decoder) (g.met.D.Decoder.lawful s.decoder) s t v c.in-More.more turn,
-      subst (λ l. LooksTo g.D.Decoder.looks s c.args.need l found) (ap (λ x. rest x) (sym turn.takes.3))
-          (looks_more g.D.Decoder.looks s c.args.need remaining (grammar s.decoder) m t need inv.0 inv.1 asked found
+      subst (λ l. LooksTo looks s c.args.need l found) (ap (λ x. rest x) (sym turn.takes.3))
+          (looks_more looks s c.args.need remaining (grammar s.decoder) m t need inv.0 inv.1 asked found
           c.in-More.ensures.looks),
     )
