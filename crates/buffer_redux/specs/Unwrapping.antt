@@ -46,6 +46,7 @@ pub record KeepsUnsent {S P : Type 0} (tells : S → StreamLog) (trace : S → S
   pub sending : Result (Unit {0}) Error
   pub sends : Sends (length s.block.bytes) s.block s.log sending b (tells inner)
   pub row : IfErr sending (λ e. FailedRow tells trace e s.inner inner)
+  pub went : trace s.inner inner
   pub in_order : WritesInOrder s [] (with_inner tells (with_block s b) inner)
   pub why : MatchResult sending (λ _. b.bytes ≡ []) (λ e. SendErrorCaused s.log.writes (tells inner).writes e)
 

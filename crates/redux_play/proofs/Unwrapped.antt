@@ -58,6 +58,7 @@ module _ {S P : Type 0} (tells : S → StreamLog) (trace : S → S → Type 0)
         sending = f.sending;
         sends = sends;
         row = f.row;
+        went = f.went.calls;
         in_order = WritesInOrder-sends s left (length s.block.bytes) f.sending sends;
         why = why_left f.sending left.block left.log sends;
       }
