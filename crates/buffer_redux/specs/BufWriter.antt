@@ -66,6 +66,12 @@ pub record Finished {S P : Type 0} (rules : WriteRules P) (m t : Buffered S P) :
   pub asked : AfterWrite rules m.policy m.block amount t.policy
   pub flush : FlushesAmount (amount.0) (with_policy m t.policy) flushed t
 
+-- and where that failed, it ended in such a row of interrupted writes
+abbrev pub FinishedInRow : {S P : Type 0} → (S → StreamLog) → (S → S → Type 0) → WriteRules P → Buffered S P → Buffered S P
+    → Type 0
+FinishedInRow tells trace rules m t =
+    (finished : Finished rules m t) × IfErr finished.flushed (λ e. FailedRow tells trace e m.inner t.inner)
+
 -- the steps of a write that returned `Ok(n)`
 pub record Wrote {S P : Type 0} (rules : WriteRules P) (s : Buffered S P) (bs : List ℕ) (n : ℕ) (t : Buffered S P)
     : Type 0 where
@@ -81,15 +87,27 @@ pub record WriteRefused {S P : Type 0} (rules : WriteRules P)
   pub asked : BeforeWrite rules s.policy s.block (length bs) (Err e) t.policy t.block
   pub told : t.log ≡ s.log
 
+-- the flush before went well, and the inner writer returned the error to the write past the buffer
+pub record FailsPast {S P : Type 0} (rules : WriteRules P) (s : Buffered S P) (bs : List ℕ) (e : Error) (t : Buffered S P)
+    : Type 0 where
+  pub before : Buffered S P
+  pub prepared : Prepared rules (length bs) s (Ok tt) before
+  pub took_in : TakesIn bs before (Err e) t
+
 -- what `write(bs)` does, step after step. At an `Err` the policy returned it, the flush before did, or the inner writer to
 -- the write past the buffer
 abbrev pub Writes : {S P : Type 0} → WriteRules P → Buffered S P → List ℕ → Result ℕ Error → Buffered S P → Type 0
 Writes rules s bs (Ok n) t = Wrote rules s bs n t
-Writes {S} {P} rules s bs (Err e) t = WriteRefused rules s bs e t ⊎ (Prepared rules (length bs) s (Err e) t ⊎ record {
-  before : Buffered S P;
-  prepared : Prepared rules (length bs) s (Ok tt) before;
-  took_in : TakesIn bs before (Err e) t;
-})
+Writes rules s bs (Err e) t = WriteRefused rules s bs e t ⊎ (Prepared rules (length bs) s (Err e) t ⊎ FailsPast rules s bs e t)
+
+-- the row of interrupted writes in which a failed flush of its ended: the one before it, whose error is returned, or the one
+-- after it, whose error is forgotten
+abbrev pub WriteRows : {S P : Type 0} → (S → StreamLog) → (S → S → Type 0) → WriteRules P → Buffered S P → List ℕ
+    → Result ℕ Error → Buffered S P → Type 0
+WriteRows tells trace rules s bs (Ok n) t = (wrote : Wrote rules s bs n t) × InnerWent tells trace s wrote.after
+    × IfErr wrote.finished.flushed (λ e. FailedRow tells trace e wrote.after.inner t.inner)
+WriteRows tells trace rules s bs (Err e) t =
+    WriteRefused rules s bs e t ⊎ (FailedRow tells trace e s.inner t.inner ⊎ FailsPast rules s bs e t)
 
 -- an error is the policy's answer, and nothing else was done, or it was caused by the inner writer
 abbrev pub WriteErrorCaused : {S P : Type 0} → WriteRules P → Buffered S P → List ℕ → Result ℕ Error → Buffered S P

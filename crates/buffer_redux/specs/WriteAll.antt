@@ -11,13 +11,14 @@ use Rattle.buffer_redux.specs.declared.policy.FlushAmt.{FlushAmt}
 use Rattle.buffer_redux.specs.Policy.{WriteRules, BeforeWrite}
 use Rattle.buffer_redux.specs.AllBytes.{EndsBy}
 use Rattle.buffer_redux.specs.Buffered.{Buffered, InnerWent}
-use Rattle.buffer_redux.specs.BufWriter.{WritesInOrder, Writes, Wrote, WriterKeeps, WriteRefused, NoSpace, WriterStopped}
+use Rattle.buffer_redux.specs.BufWriter.{WritesInOrder, WriteRows, Writes, Wrote, WriterKeeps, WriteRefused, NoSpace, WriterStopped}
 
 -- one write of these bytes, with what `write` promises, of which the rest follows
 pub record OneWrite {S P : Type 0} (tells : S → StreamLog) (trace : S → S → Type 0) (rules : WriteRules P) (bs : List ℕ)
     (s : Buffered S P) (answer : Result ℕ Error) (t : Buffered S P) : Type 0 where
   pub bound : WritesAtMost answer bs
   pub steps : Writes rules s bs answer t
+  pub rows : WriteRows tells trace rules s bs answer t
   pub whole : IsBlock s.block × IsBlock t.block
   pub went : InnerWent tells trace s t
 

@@ -8,9 +8,10 @@ ghost use Rattle.redux_buffer.specs.Block.{capacity_for, round, usable};
 ghost use Rattle.redux_buffer.specs.Faults.{FaultsOften, FewFaults, IsInterrupt, interrupt_limit};
 ghost use Rattle.redux_buffer.specs.GrowError.{FitsWithin};
 ghost use Rattle.redux_buffer.specs.StreamLog.{portion};
+ghost use Rattle.redux_buffer.specs.Transfer.{FailedRow};
 ghost use Rattle.buffer_redux.specs.contracts.buf_writer.BufWriter.{the_row};
 ghost use Rattle.buffer_redux.specs.Buffered.{over_buffer, with_block, with_inner, with_policy, InnerWent, Makes};
-ghost use Rattle.buffer_redux.specs.BufWriter.{writer_contents, FlushesAmount, TakesIn, Finished, Writes};
+ghost use Rattle.buffer_redux.specs.BufWriter.{writer_contents, FinishedInRow, FlushesAmount, TakesIn, WriteRows, Writes};
 ghost use Rattle.buffer_redux.specs.BufWriter.{WritesSteadily, WritesInOrder, WriterKeeps, WriteErrorCaused, EmptyWriteCaused, WasSent, WasFlushed, WriterStopped};
 ghost use Rattle.buffer_redux.specs.WriteAll.{TookBeginning, WriteAllErrorCaused, WritesAll};
 
@@ -227,6 +228,7 @@ impl<W: TellWrite, P> BufWriter<W, P> {
     #[inline(always)]
     fn flush_amount(&mut self, amount: usize) -> io::Result<()>
         ensures flushed { FlushesAmount amount self.old result self.new }
+        ensures row { IfErr result (λ e. FailedRow W.log W.trace e self.old.inner self.new.inner) }
         ensures whole { IsBlock self.new.block }
         ensures trace { InnerWent W.log W.trace self.old self.new }
     {
@@ -242,6 +244,7 @@ impl<W: TellWrite, P> BufWriter<W, P> {
         requires some { 0 < amount }
         requires within { amount ≤ length self.old.block.bytes }
         ensures flushed { FlushesAmount amount self.old result self.new }
+        ensures row { IfErr result (λ e. FailedRow W.log W.trace e self.old.inner self.new.inner) }
         ensures whole { IsBlock self.new.block }
         ensures trace { InnerWent W.log W.trace self.old self.new }
     {
@@ -269,7 +272,7 @@ impl<W: TellWrite, P: WriterPolicy> BufWriter<W, P> {
     // Asks the policy after a write, and flushes the amount that it returns, whether or not that fails.
     #[inline(always)]
     fn flush_after(&mut self)
-        ensures finished { Finished P.rules self.old self.new }
+        ensures finished { FinishedInRow W.log W.trace P.rules self.old self.new }
         ensures whole { IsBlock self.new.block }
         ensures trace { InnerWent W.log W.trace self.old self.new }
     {
@@ -296,6 +299,7 @@ impl<W: TellWrite, P: WriterPolicy> Write for BufWriter<W, P> {
             → EmptyWriteCaused P.rules self.old bytes.now self.new }
         ensures steadily { WritesSteadily P.rules self.old (length bytes.now) result self.new }
         ensures steps { Writes P.rules self.old bytes.now result self.new }
+        ensures rows { WriteRows W.log W.trace P.rules self.old bytes.now result self.new }
         ensures keeps { WriterKeeps W.log W.trace P.rules self.old self.new }
     {
         // Asked before the policy is, so that a policy that asks the same isn't compiled into the caller.

@@ -9,7 +9,7 @@ ghost use Rattle.redux_buffer.specs.GrowError.{FitsWithin};
 ghost use Rattle.redux_buffer.specs.StreamLog.{portion};
 ghost use Rattle.buffer_redux.specs.contracts.line_writer.LineWriter.{the_row};
 ghost use Rattle.buffer_redux.specs.Buffered.{over_buffer, with_block, with_inner, InnerWent, Makes};
-ghost use Rattle.buffer_redux.specs.BufWriter.{writer_contents, Writes, WritesSteadily, WritesInOrder, WriterKeeps, WriteErrorCaused, EmptyWriteCaused, WasSent, WasFlushed, WriterStopped};
+ghost use Rattle.buffer_redux.specs.BufWriter.{writer_contents, WriteRows, Writes, WritesSteadily, WritesInOrder, WriterKeeps, WriteErrorCaused, EmptyWriteCaused, WasSent, WasFlushed, WriterStopped};
 ghost use Rattle.buffer_redux.specs.LineWriter.{line_rules};
 ghost use Rattle.buffer_redux.specs.Unwrapping.{InnerOfFlushed, SendsOrHandles};
 ghost use Rattle.buffer_redux.specs.WriteAll.{TookBeginning, WriteAllErrorCaused, WritesAll};
@@ -254,6 +254,7 @@ impl<W: TellWrite> Write for LineWriter<W> {
             → EmptyWriteCaused line_rules self.old bytes.now self.new }
         ensures steadily { WritesSteadily line_rules self.old (length bytes.now) result self.new }
         ensures steps { Writes line_rules self.old bytes.now result self.new }
+        ensures rows { WriteRows W.log W.trace line_rules self.old bytes.now result self.new }
         ensures keeps { WriterKeeps W.log W.trace line_rules self.old self.new }
     {
         self.writer.write(bytes)

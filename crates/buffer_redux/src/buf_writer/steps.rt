@@ -3,7 +3,7 @@ ghost use Rattle.std.specs.Prelude.{◌<◌, Err, length, ⊤};
 ghost use Rattle.std.specs.Io.{WritesAtMost};
 ghost use Rattle.redux_buffer.specs.Block.{IsBlock};
 ghost use Rattle.buffer_redux.specs.Buffered.{Buffered, InnerWent};
-ghost use Rattle.buffer_redux.specs.BufWriter.{Writes};
+ghost use Rattle.buffer_redux.specs.BufWriter.{WriteRows, Writes};
 ghost use Rattle.buffer_redux.specs.WriteAll.{AskedFirst, OneWrite, WritesAll};
 
 use crate::all_bytes::progress;
@@ -20,7 +20,7 @@ impl<W: TellWrite, P: WriterPolicy> BufWriter<W, P> {
     fn write_slowly(&mut self, first: usize, bytes: &[u8]) -> io::Result<usize>
         ensures bound { WritesAtMost result bytes.now }
         ensures steps { (s : Buffered W P) → AskedFirst W.log P.rules (length bytes.now) first s self.old
-            → Writes P.rules s bytes.now result self.new }
+            → Writes P.rules s bytes.now result self.new × WriteRows W.log W.trace P.rules s bytes.now result self.new }
         ensures whole { IsBlock self.new.block }
         ensures trace { InnerWent W.log W.trace self.old self.new }
     {
@@ -36,7 +36,7 @@ impl<W: TellWrite, P: WriterPolicy> BufWriter<W, P> {
     fn write_cold(&mut self, first: usize, bytes: &[u8]) -> io::Result<usize>
         ensures bound { WritesAtMost result bytes.now }
         ensures steps { (s : Buffered W P) → AskedFirst W.log P.rules (length bytes.now) first s self.old
-            → Writes P.rules s bytes.now result self.new }
+            → Writes P.rules s bytes.now result self.new × WriteRows W.log W.trace P.rules s bytes.now result self.new }
         ensures whole { IsBlock self.new.block }
         ensures trace { InnerWent W.log W.trace self.old self.new }
     {
@@ -48,7 +48,8 @@ impl<W: TellWrite, P: WriterPolicy> BufWriter<W, P> {
     #[inline(never)]
     fn write_asking(&mut self, bytes: &[u8]) -> io::Result<usize>
         ensures bound { WritesAtMost result bytes.now }
-        ensures steps { Writes P.rules self.old bytes.now result self.new }
+        ensures steps { Writes P.rules self.old bytes.now result self.new
+            × WriteRows W.log W.trace P.rules self.old bytes.now result self.new }
         ensures whole { IsBlock self.new.block }
         ensures trace { InnerWent W.log W.trace self.old self.new }
     {
@@ -61,7 +62,8 @@ impl<W: TellWrite, P: WriterPolicy> BufWriter<W, P> {
     #[inline(always)]
     pub(super) fn write_asking_apart(&mut self, bytes: &[u8]) -> io::Result<usize>
         ensures bound { WritesAtMost result bytes.now }
-        ensures steps { Writes P.rules self.old bytes.now result self.new }
+        ensures steps { Writes P.rules self.old bytes.now result self.new
+            × WriteRows W.log W.trace P.rules self.old bytes.now result self.new }
         ensures whole { IsBlock self.new.block }
         ensures trace { InnerWent W.log W.trace self.old self.new }
     {
@@ -77,7 +79,7 @@ impl<W: TellWrite, P: WriterPolicy> BufWriter<W, P> {
     pub(super) fn write_apart(&mut self, first: usize, bytes: &[u8]) -> io::Result<usize>
         ensures bound { WritesAtMost result bytes.now }
         ensures steps { (s : Buffered W P) → AskedFirst W.log P.rules (length bytes.now) first s self.old
-            → Writes P.rules s bytes.now result self.new }
+            → Writes P.rules s bytes.now result self.new × WriteRows W.log W.trace P.rules s bytes.now result self.new }
         ensures whole { IsBlock self.new.block }
         ensures trace { InnerWent W.log W.trace self.old self.new }
     {

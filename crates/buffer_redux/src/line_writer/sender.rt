@@ -5,7 +5,7 @@ ghost use Rattle.std.specs.Io.KnownBytes.{Appends, Keeps, WriteAppends};
 ghost use Rattle.redux_buffer.specs.Block.{IsBlock};
 ghost use Rattle.redux_buffer.specs.Faults.{FaultsOften, FewFaults, IsInterrupt, interrupt_limit};
 ghost use Rattle.redux_buffer.specs.StreamLog.{portion};
-ghost use Rattle.buffer_redux.specs.BufWriter.{writer_contents, AllAlong, EmptyWriteCaused, WasFlushed, WriteErrorCaused, WriterKeeps, Writes, WritesInOrder, WritesSteadily};
+ghost use Rattle.buffer_redux.specs.BufWriter.{writer_contents, AllAlong, EmptyWriteCaused, WasFlushed, WriteErrorCaused, WriteRows, WriterKeeps, Writes, WritesInOrder, WritesSteadily};
 ghost use Rattle.buffer_redux.specs.LineWriter.{line_rules, SendsLines, ThenSendsLines};
 ghost use Rattle.buffer_redux.specs.ReadUntil.{Lacks};
 ghost use Rattle.buffer_redux.specs.WriteAll.{TookBeginning, WritesAll};
@@ -112,6 +112,7 @@ impl<W: TellWrite> Write for LineSender<W> {
             → EmptyWriteCaused line_rules self.old bytes.now self.new }
         ensures steadily { WritesSteadily line_rules self.old (length bytes.now) result self.new }
         ensures steps { Writes line_rules self.old bytes.now result self.new }
+        ensures rows { WriteRows W.log W.trace line_rules self.old bytes.now result self.new }
         ensures keeps { WriterKeeps W.log W.trace line_rules self.old self.new }
     {
         self.writer.write(bytes)

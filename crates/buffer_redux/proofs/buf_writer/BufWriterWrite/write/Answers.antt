@@ -56,9 +56,14 @@ returns g c =
     let bytes = c.args.bytes.now in
     let t = c.flush_after.new.self in
     let went : InnerWent g.W.Tell.log g.W.TellWrite.trace c.args.self.now t = search rules in
+    let none : c.in_ok-first.field-0.0 ≡ 0 = omega (arith, c.if-first-gt0.false, c.in_ok-first.first-is) in
     write_says _ _ g.P.WriterPolicy.rules _ _ (Ok (length bytes)) _ (omega arith) c.flush_after.ensures.whole went
-    (rw (← c.self.view_is) (writes_in g.P.WriterPolicy.rules _ (asked g (goal.at.returns g c).In_ok-first) t bytes
-    c.append_short.new.self c.in_ok-first.field-0 c.in_ok-first.ensures (c.in_ok-first.ensures.law.whole c.self.invariant) refl
-    (omega (arith, c.if-first-gt0.false, c.in_ok-first.first-is))
-    (omega (arith, c.if-bytes-usable_space.false, c.usable_space.ensures.value))
-    c.append_short.ensures.bytes c.flush_after.ensures.finished))
+    (writes_in _ _ g.P.WriterPolicy.rules c.args.self.now (asked g (goal.at.returns g c).In_ok-first) t bytes
+    c.append_short.new.self (asked_first g (goal.at.returns g c).In_ok-first 0 none)
+    (omega (arith, c.if-bytes-usable_space.false, c.usable_space.ensures.value)) c.append_short.ensures.bytes
+    (record {
+      calls = g.met.W.TellWrite.trace_none c.self.inside.inner;
+      told_before = refl;
+      told_after = refl;
+      noted = refl;
+    }) c.flush_after.ensures.finished)

@@ -8,6 +8,7 @@ returns g c =
       step = record {
         bound = w.bound;
         steps = w.steps;
+        rows = w.rows;
         whole = (rw (← c.writer.view_is) c.writer.invariant, w.keeps.whole);
         went = w.keeps.went;
       };
