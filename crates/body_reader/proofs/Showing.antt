@@ -1,7 +1,7 @@
 -- Payload that is buffered is handed out, and nobody is asked.
 use Rattle.std.proofs.Common.{◌≡◌, ℕ, zero, suc, ◌+◌, ◌-◌, ◌<◌, ◌≤◌, ◌⊎◌, List, [], ◌++◌, length, min, take, drop, Option, None, Some, sym, ap, subst, ◌∙◌, arith, inl, inr, refl, append-nil, length-append}
-use Rattle.std.proofs.Math.Seq.{take-append-add}
-use Rattle.std.proofs.lemmas.List.{drop_all, length-drop, length-take-le}
+use Rattle.std.proofs.Math.Seq.{drop-append-add, take-append-add}
+use Rattle.std.proofs.lemmas.List.{drop-drop, drop_all, length-drop, length-take-le, take_all}
 use Rattle.buffer_redux.specs.Buffered.{Buffered}
 use Rattle.buffer_redux.specs.BufReader.{ReaderConsumes}
 use Rattle.buffer_redux.specs.Policy.{ReadRules}
@@ -18,13 +18,24 @@ use Rattle.body_reader.specs.CodingLaws.{IsOpenBelow-open, Leads-done, Leads-who
 use Rattle.body_reader.proofs.Filling.{Carries-fewer, all_shown}
 use Rattle.body_reader.proofs.Payload.{breaks_so, early, state_is, state_went}
 use Rattle.body_reader.proofs.Skipping.{consumes_parts, passed_none}
-use borrow.Rule.Slice.PartMut.{put_mid}
+use borrow.Rule.Slice.PartMut.{mid_of, put_mid}
 
 -- a slice of which the rest was written
 put_rest : (out tail : List ℕ) (n : ℕ) → put_mid n (length out - n) out tail ≡ take n out ++ tail
 put_rest out tail n =
     ap (λ l. take n out ++ (tail ++ l)) (drop_all (length out - n) (drop n out) (omega (arith, length-drop n out)))
     ∙ ap (λ l. take n out ++ l) (append-nil tail)
+
+-- behind what is handed out it stays as it was
+pub rest_kept : (was out rest : List ℕ) (handed n : ℕ) → handed ≤ length out → drop handed out ≡ drop handed was
+    → drop n rest ≡ drop n (mid_of handed (length out - handed) out)
+    → drop (handed + n) (put_mid handed (length out - handed) out rest) ≡ drop (handed + n) was
+rest_kept was out rest handed n within is same =
+    let front = take handed out in
+    ap (drop (handed + n)) (put_rest out rest handed)
+    ∙ ap (λ j. drop (j + n) (front ++ rest)) (sym (length-take-le handed out within)) ∙ drop-append-add front rest n ∙ same
+    ∙ ap (drop n) (take_all (length out - handed) (drop handed out) (omega (arith, length-drop handed out)) ∙ is)
+    ∙ drop-drop n handed was
 
 zero_unless : (n : ℕ) → ¬ (0 < n) → n ≡ 0
 zero_unless zero none = refl

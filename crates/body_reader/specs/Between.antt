@@ -1,5 +1,5 @@
 -- What a reader of a body does with its buffered reader.
-use Rattle.std.specs.Prelude.{◌≡◌, ◌≢◌, ℕ, zero, suc, ◌+◌, ◌-◌, ◌*◌, ◌<◌, ◌≤◌, ◌⊎◌, List, [], ◌∷◌, ◌++◌, length, take, Option, MatchOption, Result, Ok, Err, MatchResult}
+use Rattle.std.specs.Prelude.{◌≡◌, ◌≢◌, ℕ, zero, suc, ◌+◌, ◌-◌, ◌*◌, ◌<◌, ◌≤◌, ◌⊎◌, List, [], ◌∷◌, ◌++◌, drop, length, take, Option, MatchOption, Result, Ok, Err, MatchResult}
 use Rattle.std.specs.IoError.{error_kind}
 use Rattle.std.specs.declared.io.Error.{Error}
 use Rattle.std.specs.declared.io.ErrorKind.TheVariants.{InvalidData, UnexpectedEof}
@@ -67,6 +67,12 @@ TakenThrough s wire t = t.block.consumed ≡ s.block.consumed + length wire
 abbrev pub handed_out : {E : Type 0} → List ℕ → Result ℕ E → List ℕ
 handed_out out (Ok n) = take n out
 handed_out out (Err e) = []
+
+-- nothing is read past a buffer of such a capacity into a smaller slice: behind what is handed out that stays as it was, and all
+-- of it where the call fails
+abbrev pub LeavesRest : {E : Type 0} → ℕ → List ℕ → Result ℕ E → List ℕ → Type 0
+LeavesRest capacity out answer out' =
+    length out < capacity → MatchResult answer (λ n. drop n out' ≡ drop n out) (λ _. out' ≡ out)
 
 -- each byte that is passed spends two of these, and each that is read ahead one
 abbrev pub spend : {P W : Type 0} → Grammar P W → P → List ℕ → ℕ

@@ -1,5 +1,5 @@
 //! The reader of a body.
-ghost use Rattle.std.specs.Prelude.{◌≡◌, ℕ, List, [], ◌+◌, ◌-◌, ◌<◌, ◌≤◌, ◌↔◌, ◌++◌, length, min, take, vec_capacity, vec_items, Err, IfErr, IfOk, IsOkAnd, IsTrue, MatchResult, Ok, OnOk, ⊤};
+ghost use Rattle.std.specs.Prelude.{◌≡◌, ℕ, List, [], ◌+◌, ◌-◌, ◌<◌, ◌≤◌, ◌↔◌, ◌++◌, drop, length, min, take, vec_capacity, vec_items, Err, IfErr, IfOk, IsOkAnd, IsTrue, MatchResult, Ok, OnOk, ⊤};
 ghost use Rattle.std.specs.Borrow.{Lends, sem};
 ghost use Rattle.body_reader.specs.contracts.reader.BodyReader.{the_row};
 ghost use Rattle.buffer_redux.specs.Block.{Reserves, capacity_for};
@@ -7,6 +7,7 @@ ghost use Rattle.buffer_redux.specs.Buffered.{over_buffer, with_inner};
 ghost use Rattle.buffer_redux.specs.BufReader.{ReadsInOrder};
 ghost use Rattle.buffer_redux.specs.GrowError.{FitsWithin};
 ghost use Rattle.buffer_redux.specs.MakeError.{growth};
+ghost use Rattle.body_reader.specs.Between.{LeavesRest};
 ghost use Rattle.body_reader.specs.Coding.{IsBody};
 ghost use Rattle.body_reader.specs.BodyReader.{BodyState, Collects, ConsumesPayload, Drains, FillsPayload, HandsBuffered, IsBodyReader, LooksBehind, NotedIfOk, NotedIfSome, ReadsPayload, begun, taken_count};
 
@@ -182,10 +183,11 @@ impl<R: TellRead, C: Coding, P: ReaderPolicy> BodyReader<R, C, P> {
     /// Hands out payload, at least a byte unless the body ended or the slice is empty.
     ///
     /// What is wrong stays buffered, and each further call says so. After a `Truncated` a further call asks the stream again, and
-    /// goes on where more came, as it does after an `Io`.
+    /// goes on where more came, as it does after an `Io`. Behind the payload a slice smaller than the buffer stays as it was.
     pub fn read_payload(&mut self, out: &mut [u8]) -> Result<usize, BodyError<C::Wrong>>
         ensures bound { IfOk result (λ n. n ≤ length out.new) }
         ensures handed { IfOk result (λ n. self.new.calls.reads.given ≡ self.old.calls.reads.given ++ take n out.new) }
+        ensures rest { LeavesRest self.old.reader.block.capacity out.old result out.new }
         ensures reads { ReadsPayload R.remaining P.rules (C.grammar self.old.coding) self.old out.new result self.new }
     {
         let answer = read_on(
@@ -239,13 +241,15 @@ impl<R: TellRead, C: Coding, P: ReaderPolicy> BodyReader<R, C, P> {
         );
     }
 
-    /// Hands out payload that is buffered, as much as the slice takes, and asks the stream for nothing. Less comes only where no
-    /// more is buffered: the body ended, what is buffered settles nothing, or is wrong, which the next
-    /// [`read_payload`](BodyReader::read_payload) tells. It is told as a read where payload is handed out, and else not.
+    /// Hands out payload that is buffered, as much as the slice takes, and asks the stream for nothing; behind that the slice
+    /// stays as it was. Less comes only where no more is buffered: the body ended, what is buffered settles nothing, or is wrong,
+    /// which the next [`read_payload`](BodyReader::read_payload) tells. It is told as a read where payload is handed out, and
+    /// else not.
     pub fn read_buffered(&mut self, out: &mut [u8]) -> usize
         ensures least { min self.old.known (length out.new) ≤ result }
         ensures taken { (wire : List ℕ) × (wire ++ self.new.reader.block.bytes ≡ self.old.reader.block.bytes)
             × (self.new.taken ≡ self.old.taken ++ wire) }
+        ensures rest { drop result out.new ≡ drop result out.old }
         ensures reads { HandsBuffered R.remaining P.rules (C.grammar self.old.coding) self.old out.new result self.new }
     {
         let count = hand_buffered(

@@ -1,9 +1,9 @@
 //! The steps of a reader of a body, over the buffered reader.
-ghost use Rattle.std.specs.Prelude.{[], ◌≡◌, ℕ, ◌-◌, ◌<◌, ◌≤◌, length, min, take, IfOk};
+ghost use Rattle.std.specs.Prelude.{[], ◌≡◌, ℕ, ◌-◌, ◌<◌, ◌≤◌, drop, length, min, take, IfOk};
 ghost use Rattle.buffer_redux.specs.Buffered.{GoesPast};
 ghost use Rattle.buffer_redux.specs.BufReader.{ReaderConsumes};
 ghost use Rattle.body_reader.specs.Coding.{Carries, IsKnown, Looks};
-ghost use Rattle.body_reader.specs.Between.{BeginsRead, FindsKnown, HandsOn, HandsShown, LooksNext, PassesOn, ShowsOn, SkipsOn, TakesFront};
+ghost use Rattle.body_reader.specs.Between.{BeginsRead, FindsKnown, HandsOn, HandsShown, LeavesRest, LooksNext, PassesOn, ShowsOn, SkipsOn, TakesFront};
 
 use crate::coding::{Coding, Look};
 use crate::error::BodyError;
@@ -146,6 +146,7 @@ pub(crate) fn hand_out<R: TellRead, P: ReaderPolicy, C: Coding>(
     requires room { 0 < length out.old }
     ensures count { result ≡ min known.old (length out.new) }
     ensures bytes { take result out.new ≡ take result reader.old.block.bytes }
+    ensures rest { drop result out.new ≡ drop result out.old }
     ensures took { TakesFront R.remaining P.rules (C.grammar coding.now) result reader.old progress.old known.old reader.new
         progress.new known.new }
 {
@@ -196,6 +197,7 @@ pub(crate) fn read_sure<R: TellRead, P: ReaderPolicy, C: Coding>(
     ensures hands { HandsOn R.remaining P.rules (C.grammar coding.now) known.old reader.old progress.old out.new result
         reader.new progress.new known.new }
     ensures known { IsKnown (C.grammar coding.now) progress.new.place known.new reader.new.block.bytes }
+    ensures rest { LeavesRest reader.old.block.capacity out.old result out.new }
 {
     let most = sure.min(out.len() as u64) as usize;
     if most >= reader.capacity() && reader.buf_len() == 0 {
@@ -221,6 +223,7 @@ fn read_slowly<R: TellRead, P: ReaderPolicy, C: Coding>(
     ensures hands { HandsOn R.remaining P.rules (C.grammar coding.now) known.old reader.old progress.old out.new result
         reader.new progress.new known.new }
     ensures known { IsKnown (C.grammar coding.now) progress.new.place known.new reader.new.block.bytes }
+    ensures rest { LeavesRest reader.old.block.capacity out.old result out.new }
 {
     let sure = skip(reader, coding, progress, look)?;
     if sure == 0 {
@@ -243,6 +246,7 @@ pub(crate) fn read_on<R: TellRead, P: ReaderPolicy, C: Coding>(
     ensures hands { HandsOn R.remaining P.rules (C.grammar coding.now) known.old reader.old progress.old out.new result
         reader.new progress.new known.new }
     ensures known { IsKnown (C.grammar coding.now) progress.new.place known.new reader.new.block.bytes }
+    ensures rest { LeavesRest reader.old.block.capacity out.old result out.new }
     ensures left { 0 < known.old → IfOk result (λ n. (n ≡ min known.old (length out.new)) × (known.new ≡ known.old - n)) }
     ensures consumed { 0 < known.old → IfOk result (λ n. 0 < n → ReaderConsumes P.rules n reader.old reader.new) }
 {
@@ -299,8 +303,9 @@ pub(crate) fn hand_buffered<R: TellRead, P: ReaderPolicy, C: Coding>(
 ) -> usize
     requires place { (C.grammar coding.now).is_place progress.old.place }
     requires known { IsKnown (C.grammar coding.now) progress.old.place known.old reader.old.block.bytes }
-    ensures { HandsShown R.remaining P.rules (C.grammar coding.now) reader.old progress.old known.old out.new result reader.new
-        progress.new known.new }
+    ensures hands { HandsShown R.remaining P.rules (C.grammar coding.now) reader.old progress.old known.old out.new result
+        reader.new progress.new known.new }
+    ensures rest { drop result out.new ≡ drop result out.old }
 {
     let mut handed = 0;
     while handed < out.len() {

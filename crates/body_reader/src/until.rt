@@ -25,14 +25,14 @@ impl Until {
         }
     }
 
-    /// Whether the delimiter stands nowhere in these bytes, as it doesn't in the first `known`. Of those no more are searched
-    /// again than it has.
+    /// Whether the delimiter stands nowhere in these bytes, as it doesn't in the first `known`.
     pub fn is_nowhere_in(&self, bytes: &[u8], known: usize) -> bool
         requires within { known ≤ length bytes.now }
         requires known { IsNowhereIn self.now.delimiter (take known bytes.now) }
         ensures { MatchBool result (IsNowhereIn self.now.delimiter bytes.now) (¬ IsNowhereIn self.now.delimiter bytes.now) }
     {
         let searched = known.saturating_sub(self.delimiter.needle().len());
+        // Of the first `known` no more are searched again than it has.
         self.delimiter.find(&bytes[searched..]).is_none()
     }
 }

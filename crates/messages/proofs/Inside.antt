@@ -1,7 +1,7 @@
 -- What the reader of a body does, told of a reader in one.
-use Rattle.std.proofs.Common.{◌≡◌, ◌↔◌, ◌≤◌, ◌∙◌, ℕ, List, [], ◌++◌, length, take, drop, Option, Result, Ok, Err, ap, arith, length-append, refl, subst, sym, take-append-drop}
+use Rattle.std.proofs.Common.{◌≡◌, ◌↔◌, ◌≤◌, ◌∙◌, ℕ, List, [], ◌++◌, length, take, drop, Option, Result, Ok, Err, IfOk, ap, arith, length-append, refl, subst, sym, take-append-drop}
 use Rattle.std.specs.declared.io.Error.{Error}
-use Rattle.messages.specs.Names.{after_read, append_cancel_left, body_answer, body_rules, BodyCoding, BodyWent, handed_of, handed_out, InsideGoes, IsBodyReader, IsDone, IsRoomy, Leads-done, Leads-whole, LeavesPlaces, LeavesRoom, Limits, ParsedHead, Place, Reader, ReadsAlong-stream, ReadsAsIo, ReadsPayload, room_of, Side, std_read_rules, StreamWent-unasked, TellsWhy, TookWholeBody, unbuffered, WhyNone}
+use Rattle.messages.specs.Names.{after_read, append_cancel_left, body_answer, body_rules, BodyCoding, BodyWent, handed_of, handed_out, InsideGoes, IsBodyReader, IsDone, IsRoomy, Leads-done, Leads-whole, LeavesPlaces, LeavesRest, LeavesRoom, Limits, ParsedHead, Place, Reader, ReadsAlong-stream, ReadsAsIo, ReadsPayload, room_of, Side, std_read_rules, StreamWent-unasked, TellsWhy, TookWholeBody, unbuffered, WhyNone}
 use Rattle.body_reader.specs.BodyReaderLaws.{BodyWent-leads}
 use Rattle.body_reader.specs.Coding.{heeded}
 use Rattle.body_reader.specs.CodingLaws.{Agree-nothing}
@@ -16,6 +16,17 @@ pub tells_why : {A : Type 0} (place : Side ℕ Place) (Does : Result A WhyNone �
     → TellsWhy place Does (body_answer place told)
 tells_why place Does (Ok a) did = did
 tells_why place Does (Err e) did = (e, refl, did)
+
+-- an Ok says what it said, and of a slice is left what was
+pub ok_named : (place : Side ℕ Place) (told : Result ℕ WhyNone) (Says : ℕ → Type 0) → IfOk told Says
+    → IfOk (body_answer place told) Says
+ok_named place (Ok n) Says says = says
+ok_named place (Err e) Says says = tt
+
+pub rest_named : (place : Side ℕ Place) (told : Result ℕ WhyNone) (capacity : ℕ) (out out' : List ℕ)
+    → LeavesRest capacity out told out' → LeavesRest capacity out (body_answer place told) out'
+rest_named place (Ok n) capacity out out' rest = rest
+rest_named place (Err e) capacity out out' rest = rest
 
 -- the policy leaves the buffer as it is
 std_leaves : LeavesRoom {Q = StdPolicy} std_read_rules

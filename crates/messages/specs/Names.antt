@@ -1,5 +1,5 @@
 -- The names that laws and proofs take from other files, in one place.
-pub use Rattle.body_reader.specs.Between.{handed_out, LeavesPlaces, LeavesRoom}
+pub use Rattle.body_reader.specs.Between.{handed_out, LeavesPlaces, LeavesRest, LeavesRoom}
 pub use Rattle.body_reader.specs.BodyReader.{BodyWent, FillsPayload, handed_of, IsBodyReader, NoPayload, ReadsAsIo, ReadsPayload, TookWholeBody}
 pub use Rattle.body_reader.specs.Coding.{IsBody, IsDone}
 pub use Rattle.body_reader.specs.CodingLaws.{Leads-done, Leads-whole, none_wrong}

@@ -1,9 +1,9 @@
 //! The reader of requests, in a body.
-ghost use Rattle.std.specs.Prelude.{◌≡◌, ◌-◌, ◌^◌, ◌<◌, ◌≤◌, ◌↔◌, ℕ, List, [], ◌++◌, length, min, take, IfOk, IsTrue, MatchResult};
+ghost use Rattle.std.specs.Prelude.{◌≡◌, ◌-◌, ◌^◌, ◌<◌, ◌≤◌, ◌↔◌, ℕ, List, [], ◌++◌, drop, length, min, take, IfOk, IsTrue, MatchResult};
 ghost use Rattle.std.specs.Borrow.{Lends, sem};
 ghost use Rattle.buffer_redux.specs.Buffered.{with_inner};
 ghost use Rattle.buffer_redux.specs.Policy.{std_read_rules};
-ghost use Rattle.body_reader.specs.Between.{handed_out};
+ghost use Rattle.body_reader.specs.Between.{LeavesRest, handed_out};
 ghost use Rattle.body_reader.specs.BodyReader.{HandsBuffered, IsBodyReader, ReadsPayload};
 ghost use Rattle.body_reader.specs.Coding.{IsBody};
 ghost use Rattle.body_reader.specs.declared.either.Side.TheVariants as side;
@@ -165,11 +165,13 @@ impl<R: TellRead> Body<R> {
     ///
     /// The stream is asked only where no payload is buffered and the body goes on behind all that is: for no byte behind it, for
     /// as much as surely is payload and fits the slice, and once only where it fails or gives nothing. Less than the slice takes
-    /// comes only where nothing is left of the buffer, or as much as surely is payload, or was known to be.
+    /// comes only where nothing is left of the buffer, or as much as surely is payload, or was known to be. Behind the payload a
+    /// slice smaller than the buffer stays as it was.
     pub fn read(&mut self, out: &mut [u8]) -> Result<usize, BodyError>
         ensures bound { IfOk result (λ n. n ≤ length out.new) }
         ensures handed { IfOk result (λ n. self.new.body.calls.reads.given
             ≡ self.old.body.calls.reads.given ++ take n out.new) }
+        ensures rest { LeavesRest self.old.body.reader.block.capacity out.old result out.new }
         ensures goes { InsideGoes R.remaining self.old (handed_out out.new result) self.new }
         ensures asks { self.old.body.reader.block.bytes ≡ [] → 0 < length out.new
             → ¬ (IsBody (body_rules self.old.body.coding) self.old.body.taken self.old.body.calls.reads.given)
@@ -182,11 +184,12 @@ impl<R: TellRead> Body<R> {
         answer_of(self.reader.place(), answer)
     }
 
-    /// Hands out payload that is buffered, and asks the stream for nothing. Less than the slice takes comes only where the body
-    /// ended, or nothing is buffered, or what comes next is wrong, which [`read`](Body::read) tells. It is told as a read where
-    /// payload is handed out, and else not.
+    /// Hands out payload that is buffered, and asks the stream for nothing; behind that the slice stays as it was. Less than the
+    /// slice takes comes only where the body ended, or nothing is buffered, or what comes next is wrong, which
+    /// [`read`](Body::read) tells. It is told as a read where payload is handed out, and else not.
     pub fn read_buffered(&mut self, out: &mut [u8]) -> usize
         ensures bound { result ≤ length out.new }
+        ensures rest { drop result out.new ≡ drop result out.old }
         ensures unasked { self.new.body.reader.log ≡ self.old.body.reader.log }
         ensures goes { InsideGoes R.remaining self.old (take result out.new) self.new }
         ensures reads { HandsBuffered R.remaining std_read_rules (body_rules self.old.body.coding) self.old.body out.new result

@@ -5,6 +5,7 @@ ghost use Rattle.std.specs.Io.{ReadsAtMost, StartsWith};
 ghost use Rattle.std.specs.Io.BufRead.{Rests};
 ghost use Rattle.std.specs.Io.KnownBytes.{ReadConsumes};
 ghost use Rattle.body_reader.specs.contracts.reader.BodyReader.{the_row};
+ghost use Rattle.body_reader.specs.Between.{LeavesRest};
 ghost use Rattle.buffer_redux.specs.StreamLog.{StreamLog, after_read};
 ghost use Rattle.body_reader.specs.BodyReader.{ConsumesPayload, FillsAsIo, IsBodyReader, ReadsAsIo};
 
@@ -28,6 +29,7 @@ where
     fn read(&mut self, out: &mut [u8]) -> io::Result<usize>
         ensures bound { ReadsAtMost result out.new }
         ensures bytes { ReadConsumes None None result out.new }
+        ensures rest { LeavesRest self.old.reader.block.capacity out.old result out.new }
         ensures read { ReadsAsIo R.remaining P.rules (C.grammar self.old.coding) self.old out.new result self.new }
     {
         Ok(self.read_payload(out)?)
@@ -43,6 +45,7 @@ where
         ensures bound { ReadsAtMost result out.new }
         ensures told { self.new.calls ≡ after_read self.old.calls out.new result }
         ensures bytes { ReadConsumes None None result out.new }
+        ensures rest { LeavesRest self.old.reader.block.capacity out.old result out.new }
         ensures read { (untold : StreamLog) × ReadsAsIo R.remaining P.rules (C.grammar self.old.coding) self.old out.new result
             (record self.new { calls = untold }) }
         ensures whole { IsBodyReader (C.grammar self.new.coding) self.new }

@@ -4,7 +4,7 @@ ghost use Rattle.std.specs.Io.{ReadsAtMost};
 ghost use Rattle.std.specs.Io.KnownBytes.{ReadConsumes};
 ghost use Rattle.buffer_redux.specs.Policy.{std_read_rules};
 ghost use Rattle.buffer_redux.specs.StreamLog.{StreamLog, after_read};
-ghost use Rattle.body_reader.specs.Between.{handed_out};
+ghost use Rattle.body_reader.specs.Between.{LeavesRest, handed_out};
 ghost use Rattle.body_reader.specs.BodyReader.{ReadsAsIo};
 ghost use Rattle.messages.specs.Messages.{InsideGoes, body_rules};
 
@@ -24,6 +24,7 @@ impl<R: TellRead> Read for Body<R> {
         ensures bound { ReadsAtMost result out.new }
         ensures told { self.new.body.calls ≡ after_read self.old.body.calls out.new result }
         ensures bytes { ReadConsumes None None result out.new }
+        ensures rest { LeavesRest self.old.body.reader.block.capacity out.old result out.new }
         ensures goes { InsideGoes R.remaining self.old (handed_out out.new result) self.new }
         ensures read { (untold : StreamLog) × ReadsAsIo R.remaining std_read_rules (body_rules self.old.body.coding) self.old.body
             out.new result (record self.new.body { calls = untold }) }
@@ -38,6 +39,7 @@ impl<R: TellRead> TellRead for Body<R> {
         ensures bound { ReadsAtMost result out.new }
         ensures told { self.new.body.calls ≡ after_read self.old.body.calls out.new result }
         ensures bytes { ReadConsumes None None result out.new }
+        ensures rest { LeavesRest self.old.body.reader.block.capacity out.old result out.new }
         ensures goes { InsideGoes R.remaining self.old (handed_out out.new result) self.new }
         ensures read { (untold : StreamLog) × ReadsAsIo R.remaining std_read_rules (body_rules self.old.body.coding) self.old.body
             out.new result (record self.new.body { calls = untold }) }

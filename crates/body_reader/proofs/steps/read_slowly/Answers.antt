@@ -35,3 +35,7 @@ returns-clause-hands g c =
     let room : 0 < length c.read_sure.new.out = omega (arith, c.requires.begins.some) in
     let skips = c.in_ok-sure.ensures _ in
     hands_after _ _ _ _ _ _ _ _ _ _ room skips.0 skips.1.0 _ _ _ c.read_sure.ensures.hands
+
+pub returns-clause-rest : goal.returns-clause-rest
+returns-clause-rest g c small =
+    c.read_sure.ensures.rest (omega (arith, small, (c.in_ok-sure.ensures 0).0.takes.along.capacity))

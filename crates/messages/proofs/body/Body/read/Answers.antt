@@ -1,7 +1,7 @@
 -- What the reader did, told of one in a body; why none comes is named where it stands then.
 use Rattle.messages.specs.Names.{body_rules, ReadsPayload, std_read_rules}
 use Rattle.messages.proofs.Asking.{body_asks}
-use Rattle.messages.proofs.Inside.{body_goes, body_room, read_went, tells_why}
+use Rattle.messages.proofs.Inside.{body_goes, body_room, ok_named, read_went, rest_named, tells_why}
 use Rattle.messages.proofs.body.Body.read.Goals as goal
 
 pub invariant_of-self : goal.invariant_of-self
@@ -14,6 +14,20 @@ returns-clause-goes g c =
     let reads = c.read_payload-answer.ensures.reads in
     rw (c.answer_of.ensures, ← c.self.view_is)
     (body_goes (read_went _ _ reads) c.self.invariant.2 reads.whole i.limits i.head.bytes i.said)
+
+pub returns-clause-bound : goal.returns-clause-bound
+returns-clause-bound g c =
+    let read = c.read_payload-answer in rw c.answer_of.ensures (ok_named _ read.result _ read.ensures.bound)
+
+pub returns-clause-handed : goal.returns-clause-handed
+returns-clause-handed g c =
+    let read = c.read_payload-answer in
+    rw (c.answer_of.ensures, ← c.self.view_is) (ok_named _ read.result _ read.ensures.handed)
+
+pub returns-clause-rest : goal.returns-clause-rest
+returns-clause-rest g c =
+    let read = c.read_payload-answer in
+    rw (c.answer_of.ensures, ← c.self.view_is) (rest_named _ read.result _ _ read.new.out read.ensures.rest)
 
 pub returns-clause-reads : goal.returns-clause-reads
 returns-clause-reads g c =
