@@ -22,12 +22,10 @@ is_opening head = let rest = drop (prefix_len is_blank head) head in (length res
 abbrev pub IsPartHead : List ℕ → List ℕ → Type 0
 IsPartHead boundary head = IsTrue (is_opening head) × IsNowhereIn boundary head
 
--- without ASCII white space in front, and around it
-abbrev pub begun_by : List ℕ → List ℕ
-begun_by text = drop (prefix_len is_ascii_whitespace text) text
-
+-- without ASCII white space around it
 abbrev pub trimmed : List ℕ → List ℕ
-trimmed text = let front = begun_by text in take (length front - suffix_len is_ascii_whitespace front) front
+trimmed text =
+    let rest = drop (prefix_len is_ascii_whitespace text) text in take (length rest - suffix_len is_ascii_whitespace rest) rest
 
 -- what stands behind this front, whatever the case of its letters
 abbrev pub after_front : List ℕ → List ℕ → Option (List ℕ)
@@ -36,7 +34,7 @@ after_front front text =
 
 -- the same where white space may stand before it
 abbrev pub next : List ℕ → List ℕ → Option (List ℕ)
-next front text = after_front front (begun_by text)
+next front text = after_front front (drop (prefix_len is_ascii_whitespace text) text)
 
 -- what stands before the first such byte, or all
 abbrev pub before : ℕ → List ℕ → List ℕ
@@ -53,18 +51,18 @@ said_at Parameter name quoted text = if quoted then None
     else option_and_then (next (61 ∷ [])) (option_and_then (next name) (after_front (59 ∷ []) text))
 
 -- what the first place says that says something: a quote begins and ends quotes
-abbrev pub first_said : (Bool → List ℕ → Option (List ℕ)) → Bool → List ℕ → Option (List ℕ)
-first_said says quoted [] = None
-first_said says quoted (byte ∷ rest) =
-    option_or (says quoted (byte ∷ rest)) (first_said says (if byte == 34 then not quoted else quoted) rest)
+abbrev pub first_said : Sought → List ℕ → Bool → List ℕ → Option (List ℕ)
+first_said sought name quoted [] = None
+first_said sought name quoted (byte ∷ rest) = option_or (said_at sought name quoted (byte ∷ rest))
+    (first_said sought name (if byte == 34 then not quoted else quoted) rest)
 
 -- up to the end of the line
 abbrev pub line : List ℕ → List ℕ
-line text = option_map_or (λ rest. take (length text - length rest) text) (first_said (said_at LineEnd []) false text) text
+line text = option_map_or (λ rest. take (length text - length rest) text) (first_said LineEnd [] false text) text
 
 -- the value of the first field of this name
 abbrev pub field_of : List ℕ → List ℕ → Option (List ℕ)
-field_of head name = option_map (λ value. trimmed (line value)) (first_said (said_at Field name) false head)
+field_of head name = option_map (λ value. trimmed (line value)) (first_said Field name false head)
 
 -- what is said behind `=`: what stands in quotes, or else up to `;`
 abbrev pub said : List ℕ → List ℕ
@@ -72,4 +70,4 @@ said text = option_map_or (before 34) (next (34 ∷ []) text) (trimmed (before 5
 
 -- by the first parameter of this name
 abbrev pub parameter_of : List ℕ → List ℕ → Option (List ℕ)
-parameter_of value name = option_map said (first_said (said_at Parameter name) false value)
+parameter_of value name = option_map said (first_said Parameter name false value)

@@ -14,8 +14,6 @@ use Rattle.body_reader.specs.declared.just_or_until.JustOrUntil.{JustOrUntil}
 use Rattle.body_reader.specs.BodyReader.{BodyState, Collects, Drains, begun, handed_of}
 use Rattle.body_reader.specs.Coding.{Grammar, IsBody}
 use Rattle.body_reader.specs.JustOrUntil.{just_or_until}
-use Rattle.multipart.specs.declared.error.NewError.{NewError}
-use Rattle.multipart.specs.declared.error.NewError.TheVariants as new
 use Rattle.multipart.specs.declared.error.PartError.{PartError}
 use Rattle.multipart.specs.declared.error.PartError.TheVariants as part
 use Rattle.multipart.specs.declared.reader.Limits.{Limits}
@@ -49,22 +47,17 @@ is_full d = nat_le d.limits.parts d.parts
 abbrev pub head_most : {S Q : Type 0} → FormState S Q → ℕ
 head_most d = if is_full d then 0 else d.limits.head
 
--- an empty line ends a head. Behind as many parts as may be there is none but two hyphens: each byte else is payload at once, of
--- which there may be none
-abbrev pub head_end : Bool → List ℕ
-head_end true = 45 ∷ hyphens
-head_end false = 13 ∷ 10 ∷ crlf
-
--- a boundary that begins a line ends a text, also where it begins the text; and two hyphens may be all of a head
+-- a boundary that begins a line ends a text, also where it begins the text; and an empty line ends a head, or two hyphens are all
+-- of it. Behind as many parts as may be there is no other: each byte else is payload at once, of which there may be none
 pub record AreCodings (full : Bool) (texts heads : JustOrUntil) : Type 0 where
   pub line : texts.until.delimiter ≡ 13 ∷ 10 ∷ texts.just.items
-  pub end : heads.until.delimiter ≡ head_end full
+  pub end : heads.until.delimiter ≡ (if full then 45 ∷ hyphens else 13 ∷ 10 ∷ crlf)
   pub hyphens : heads.just.items ≡ hyphens
   pub room : heads.room ≡ texts.room
 
 -- the coding of a head, where heads have this
 abbrev pub TurnsLast : Bool → JustOrUntil → JustOrUntil → Type 0
-TurnsLast true c d = (d.until.delimiter ≡ head_end true) × (d.just.items ≡ c.just.items) × (d.room ≡ c.room)
+TurnsLast true c d = (d.until.delimiter ≡ 45 ∷ hyphens) × (d.just.items ≡ c.just.items) × (d.room ≡ c.room)
 TurnsLast false c d = d ≡ c
 
 -- what came of a head so far may begin one, and is no longer than one may be
@@ -74,16 +67,13 @@ pub record BeginsHead {S Q : Type 0} (d : FormState S Q) : Type 0 where
   pub is_head : IsPartHead d.other.until.delimiter d.head
   pub few : length d.head ≤ head_most d
 
--- which coding is whose; and what the head is: all that came of one so far, or a whole one in front of a text
+-- what is true of a reader of parts that stands there: which coding is whose; and what the head is: all that came of one so far,
+-- or a whole one in front of a text
 abbrev pub HasHead : {S Q : Type 0} → Stand → FormState S Q → Type 0
 HasHead Preamble d = AreCodings false d.body.coding d.other
 HasHead Head d = BeginsHead d
 HasHead Part d = AreCodings false d.body.coding d.other × ((bytes : List ℕ) × IsBody (codes d.other) bytes d.head)
 HasHead Ended d = AreCodings (is_full d) d.other d.body.coding × (d.body.taken ≡ hyphens)
-
--- what is true of every reader of parts
-abbrev pub IsForm : {S Q : Type 0} → FormState S Q → Type 0
-IsForm d = HasHead d.stand d
 
 -- before the first byte of a body with this boundary
 pub record IsBegun {S Q : Type 0} (reader : Buffered S Q) (boundary : List ℕ) (limits : Limits) (t : FormState S Q)
@@ -98,13 +88,6 @@ pub record IsBegun {S Q : Type 0} (reader : Buffered S Q) (boundary : List ℕ) 
   pub parts : t.parts ≡ 0
   pub limited : t.limits ≡ limits
 
--- why no reader can be made
-abbrev pub NoReaderMade : {S Q : Type 0} → Buffered S Q → List ℕ → NewError → Type 0
-NoReaderMade reader boundary new.Boundary = (length boundary ≡ 0) ⊎ (70 < length boundary)
-NoReaderMade reader boundary new.Room = reader.block.capacity < length boundary + 4
-NoReaderMade reader boundary new.Memory =
-    (0 < length boundary) × (length boundary ≤ 70) × (length boundary + 4 ≤ reader.block.capacity)
-
 -- the next section begins, where the last one left the buffered reader
 abbrev pub turned : {S Q : Type 0} → FormState S Q → Stand → FormState S Q
 turned d stand = record d { body = begun (codes d.other) d.body.reader d.other; other = d.body.coding; stand = stand }
@@ -118,8 +101,7 @@ part_error (why.Io e) = part.Io e
 -- why a head wasn't collected, where there may be no further part or there may
 abbrev pub head_error : Bool → CollectError (Unit {0}) → PartError
 head_error full (collect.Body e) = part_error e
-head_error true collect.TooLong = part.ManyParts
-head_error false collect.TooLong = part.LongHead
+head_error full collect.TooLong = if full then part.ManyParts else part.LongHead
 head_error full collect.Memory = part.Memory
 head_error full collect.Refused = part.Boundary
 
@@ -128,9 +110,7 @@ abbrev pub PartBecomesIo : PartError → Error → Type 0
 PartBecomesIo (part.Io same) e = e ≡ same
 PartBecomesIo part.Truncated e = error_kind e ≡ UnexpectedEof
 PartBecomesIo part.Memory e = error_kind e ≡ OutOfMemory
-PartBecomesIo part.Boundary e = error_kind e ≡ InvalidData
-PartBecomesIo part.LongHead e = error_kind e ≡ InvalidData
-PartBecomesIo part.ManyParts e = error_kind e ≡ InvalidData
+PartBecomesIo wrong e = error_kind e ≡ InvalidData
 
 -- a head ended: two hyphens end the body, and else a part begins, which there may be
 abbrev pub EndsHead : {S Q : Type 0} → FormState S Q → Bool → FormState S Q → Type 0

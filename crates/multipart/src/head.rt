@@ -126,7 +126,7 @@ fn from_line_end(text: &[u8]) -> Option<&[u8]>
 
 // What the first place says that says something of what is sought.
 fn first_said<'a>(text: &'a [u8], sought: Sought, name: &[u8]) -> Option<&'a [u8]>
-    ensures { option_copied result ≡ first_said (said_at sought name.now) false text.now }
+    ensures { option_copied result ≡ first_said sought name.now false text.now }
 {
     let mut quoted = false;
     for i in 0..text.len() {

@@ -1,7 +1,7 @@
 //! The reader of parts.
 ghost use Rattle.std.specs.Prelude.{[], ◌≡◌, ◌≢◌, ◌<◌, ◌≤◌, ◌+◌, ◌⊎◌, ◌∷◌, ◌++◌, if◌then◌else◌, length, min, false, take, vec_items, Ok, IfErr, IfOk, IfSome, MatchBool, OnErr};
 ghost use Rattle.body_reader.specs.BodyReader.{ConsumesPayload, FillsPayload, IsBodyReader, ReadsPayload, TookWholeBody};
-ghost use Rattle.multipart.specs.Multipart.{AreCodings, GoesOnFromHead, IsBegun, IsForm, NextPart, NoReaderMade, PassesText, TurnsLast, codes};
+ghost use Rattle.multipart.specs.Multipart.{AreCodings, GoesOnFromHead, HasHead, IsBegun, NextPart, PassesText, TurnsLast, codes};
 
 use crate::error::{NewError, PartError};
 use crate::head::PartHead;
@@ -52,7 +52,7 @@ pub struct Multipart<R: Tell, P = StdPolicy> {
 
 impl<R: Tell, P> Model for Multipart<R, P> {
     ghost use Rattle.std.specs.Prelude.{vec_capacity};
-    ghost use Rattle.multipart.specs.Multipart.{FormState, IsForm};
+    ghost use Rattle.multipart.specs.Multipart.{FormState, HasHead};
 
     ghost Value = { FormState R P };
 
@@ -66,7 +66,7 @@ impl<R: Tell, P> Model for Multipart<R, P> {
       limits = m.limits;
     } };
 
-    ghost invariant = { λ m. IsForm (record {
+    ghost invariant = { λ m. HasHead m.stand (record {
       body = m.body;
       other = m.other;
       head = m.head.items;
@@ -88,9 +88,12 @@ impl<R: Tell, P> Multipart<R, P> {
     ) -> Result<Self, (BufReader<R, P>, NewError)>
         ensures over { IfOk result (λ m. (m.body.reader ≡ reader) × (m.body.taken ≡ []) × (m.head ≡ []) × (m.parts ≡ 0)) }
         ensures begun { IfOk result (IsBegun reader boundary.now limits) }
-        ensures whole { IfOk result IsForm }
+        ensures whole { IfOk result (λ m. HasHead m.stand m) }
         ensures handed_back { IfErr result (λ e. e.0 ≡ reader) }
-        ensures refused { IfErr result (λ e. NoReaderMade reader boundary.now e.1) }
+        ensures boundary { IfErr result (λ e. e.1 ≡ NewError.Boundary → (length boundary.now ≡ 0) ⊎ (70 < length boundary.now)) }
+        ensures room { IfErr result (λ e. e.1 ≡ NewError.Room → reader.block.capacity < length boundary.now + 4) }
+        ensures memory { IfErr result (λ e. e.1 ≡ NewError.Memory → (0 < length boundary.now) × (length boundary.now ≤ 70)
+            × (length boundary.now + 4 ≤ reader.block.capacity)) }
     {
         if boundary.is_empty() || boundary.len() > 70 {
             return Err((reader, NewError::Boundary));
@@ -116,7 +119,7 @@ impl<R: Tell, P> Multipart<R, P> {
     pub fn get_ref(&self) -> &BufReader<R, P>
         ensures reader { result.now ≡ self.now.body.reader }
         ensures body { IsBodyReader (codes self.now.body.coding) self.now.body }
-        ensures whole { IsForm self.now }
+        ensures whole { HasHead self.now.stand self.now }
     {
         self.body.get_ref()
     }
@@ -304,8 +307,6 @@ impl<R: TellRead, P: ReaderPolicy> Multipart<R, P> {
             self.stand = Stand::Ended;
             return Ok(false);
         }
-        let more = self.parts < self.limits.parts;
-        prove!(more);
         self.body.begin_next(&mut self.other);
         self.parts += 1;
         self.stand = Stand::Part;

@@ -12,18 +12,10 @@ pub begin_next-requires-clause-ended : goal.begin_next-requires-clause-ended
 begin_next-requires-clause-ended g c = rw c.in_ok-drain.ensures.drains.takes.went.coding c.in_ok-drain.ensures.ended
 
 pub returns : goal.returns
-returns g c = rw (← c.self.view_is) (inl (
-  c.drain.new.self,
-  c.turn_last.new.heads,
-  c.in_ok-drain.ensures.drains,
-  c.turn_last.ensures,
-  rw (
-    c.begin_next.ensures.begun,
-    c.begin_next.ensures.before,
-    c.clear.ensures.items,
-    c.clear.ensures.capacity,
-  ) at c.go_on.ensures,
-))
+returns g c =
+    let next = c.begin_next.ensures in
+    let goes = rw (next.begun, next.before, c.clear.ensures.items, c.clear.ensures.capacity) at c.go_on.ensures in
+    rw (← c.self.view_is) (inl (c.drain.new.self, c.turn_last.new.heads, c.in_ok-drain.ensures.drains, c.turn_last.ensures, goes))
 
 pub invariant_of-self : goal.invariant_of-self
 invariant_of-self g c =
