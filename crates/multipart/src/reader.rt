@@ -1,5 +1,6 @@
 //! The reader of parts.
 ghost use Rattle.std.specs.Prelude.{[], ◌≡◌, ◌≢◌, ◌<◌, ◌≤◌, ◌+◌, ◌⊎◌, ◌∷◌, ◌++◌, if◌then◌else◌, length, min, false, take, vec_items, Ok, IfErr, IfOk, IfSome, MatchBool, OnErr};
+ghost use Rattle.body_reader.specs.Between.{LeavesRest};
 ghost use Rattle.body_reader.specs.BodyReader.{ConsumesPayload, FillsPayload, IsBodyReader, ReadsPayload, TookWholeBody};
 ghost use Rattle.multipart.specs.Multipart.{AreCodings, GoesOnFromHead, HasHead, IsBegun, NextPart, PassesText, TurnsLast, codes};
 
@@ -211,13 +212,14 @@ fn joined(alloc: Global, front: &[u8], tail: &[u8]) -> Option<Vec<u8>>
 
 impl<R: TellRead, P: ReaderPolicy> Multipart<R, P> {
     /// Hands out text of the part, at least a byte unless it ended or the slice is empty; and none where the reader stands in no
-    /// part. After a `Truncated` or an `Io` a further call goes on.
+    /// part. Behind the text a slice smaller than the buffer stays as it was. After a `Truncated` or an `Io` a further call goes on.
     pub fn read(&mut self, out: &mut [u8]) -> Result<usize, BodyError<()>>
         ensures handed { IfOk result (λ n. (n ≤ length out.new)
             × (self.old.stand ≡ Stand.Part
             → self.new.body.calls.reads.given ≡ self.old.body.calls.reads.given ++ take n out.new)) }
         ensures none { self.old.stand ≢ Stand.Part → (result ≡ Ok 0) × (self.new ≡ self.old) }
         ensures within { self.new ≡ record self.old { body = self.new.body } }
+        ensures rest { LeavesRest self.old.body.reader.block.capacity out.old result out.new }
         ensures reads { self.old.stand ≡ Stand.Part → ReadsPayload R.remaining P.rules (codes self.old.body.coding) self.old.body
             out.new result self.new.body }
     {
