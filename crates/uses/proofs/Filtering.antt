@@ -1,26 +1,21 @@
 -- What goes on of lines, one after another.
-use Rattle.std.proofs.Common.{◌≡◌, ◌∙◌, ℕ, ◌+◌, ◌^◌, ◌<◌, ◌≤◌, ◌⊎◌, List, [], ◌∷◌, ◌++◌, length, Result, Ok, Err, Option, Some, IfSome, MatchResult, IfOk, IfErr, inl, inr, ap, arith, refl, subst, sym, append-nil, append_assoc, length-append}
+use Rattle.std.proofs.Common.{◌≡◌, ◌∙◌, ℕ, ◌+◌, ◌^◌, ◌<◌, List, [], ◌∷◌, ◌++◌, length, Result, Ok, Err, MatchResult, Option, Some, inl, inr, ap, arith, refl, sym, append-nil, append_assoc}
 use Rattle.std.specs.declared.io.Error.{Error}
 use Rattle.buffer_redux.specs.Buffered.{Buffered}
-use Rattle.buffer_redux.specs.BufReader.{ReadsToEnd}
-use Rattle.buffer_redux.specs.BufWriter.{Flushes, WasFlushed, WritesAlong}
+use Rattle.buffer_redux.specs.BufWriter.{WasFlushed, WritesAlong}
 use Rattle.buffer_redux.specs.LineSenderLaws.{SendsLines-along, lacks_or}
-use Rattle.buffer_redux.specs.LineWriter.{SendsLines, ThenSendsLines, line_rules}
+use Rattle.buffer_redux.specs.LineWriter.{SendsLines, ThenSendsLines}
 use Rattle.buffer_redux.specs.LogGrows.{WritesGoOn}
-use Rattle.buffer_redux.specs.Pieces.{Ended, GivesWhole, Splitting, without_end}
-use Rattle.buffer_redux.specs.Policy.{ReadRules, WriteRules, std_read_rules}
-use Rattle.buffer_redux.specs.ReaderLaws.{WantsBytes}
-use Rattle.buffer_redux.specs.Remaining.{reader_remaining}
-use Rattle.buffer_redux.specs.StreamLog.{StreamLog, after_flush}
-use Rattle.buffer_redux.specs.Transfer.{Sends}
+use Rattle.buffer_redux.specs.Pieces.{Ended, Splitting, without_end}
+use Rattle.buffer_redux.specs.Policy.{WriteRules, std_read_rules}
+use Rattle.buffer_redux.specs.ReaderLaws.{WantsBytes-std}
+use Rattle.buffer_redux.specs.StreamLog.{StreamLog}
 use Rattle.buffer_redux.specs.UntilLaws.{ReadsUntil-end}
 use Rattle.buffer_redux.specs.WriteFmt.{WritesEach, WritesText}
-use Rattle.buffer_redux.specs.WritesAlongLaws.{FlushedAlong-of, WritesAlong-joins, WritesAlong-then}
-use Rattle.uses.specs.Filter.{AllGoOn, AreFirstLines, FiltersAll, FiltersLines, FiltersSome, LineGoesThrough}
-use Rattle.uses.specs.Tally.{HandsLinePieces}
-use Rattle.uses.proofs.Pieces.{HandsLinePieces-more}
+use Rattle.buffer_redux.specs.WritesAlongLaws.{WritesAlong-then}
+use Rattle.uses.specs.Filter.{AllGoOn, AreAll, FilterEnded, LineGoesThrough}
 
-AllGoOn-more : (word : List ℕ) (lines : List (List ℕ)) (line out first : List ℕ) → AllGoOn word lines out
+pub AllGoOn-more : (word : List ℕ) (lines : List (List ℕ)) (line out first : List ℕ) → AllGoOn word lines out
     → LineGoesThrough word (without_end line) first → AllGoOn word (lines ++ line ∷ []) (out ++ first)
 AllGoOn-more word [] line out first none goes =
     (first, [], goes, refl, ap (λ l. l ++ first) none ∙ sym (append-nil first))
@@ -31,34 +26,6 @@ AllGoOn-more word (l ∷ lines) line out first (front, rest, is, all, same) goes
   AllGoOn-more word lines line rest first all goes,
   ap (λ x. x ++ first) same ∙ append_assoc front rest first,
 )
-
-module _ {S P : Type 0} (remaining : S → Option (List ℕ)) (rules : ReadRules P) (lines : List (List ℕ)) (from : Buffered S P)
-    (s t : Splitting S P) (byte : s.byte ≡ 10) (begun : s.begun ≡ []) (wants : WantsBytes (rules.claims s.reader.policy))
-    (capacity : 0 < s.reader.block.capacity) where
-  -- one more line was handed out
-  pub HandsLinePieces-line : (line : List ℕ) → HandsLinePieces remaining rules lines from s.reader
-      → GivesWhole remaining rules s line t → HandsLinePieces remaining rules (lines ++ line ∷ []) from t.reader
-  HandsLinePieces-line line hands whole =
-      let reads = rw byte at whole.went.reads in
-      let same : line ≡ reads.handed = reads.appended ∙ ap (λ b. b ++ reads.handed) begun in
-      subst (λ l. HandsLinePieces remaining rules (lines ++ l ∷ []) from t.reader) (sym same)
-      (HandsLinePieces-more remaining rules lines whole.count s.begun line from s.reader t.reader hands wants capacity reads
-      (omega (arith, whole.some, reads.count, ap length same)))
-
-  -- there is none
-  pub Ended-lines : s.left + length lines + 1 ≡ 2 ^ 64 → Ended remaining rules s t
-      → ((end : Buffered S P) × ReadsToEnd remaining rules s.reader [] end) ⊎ (2 ^ 64 ≤ length lines + 1)
-  Ended-lines turns (inl (none, same)) = inr (omega (arith, turns, none))
-  Ended-lines turns (inr (count, went, stays)) =
-      let reads = rw byte at went.reads in
-      let none : count ≡ 0 = omega (
-        arith,
-        reads.count,
-        ap length reads.appended,
-        length-append s.begun reads.handed,
-      ) in
-      let nothing = rw none at reads in
-      inl (t.reader, (ReadsUntil-end remaining rules 10 s.reader s.begun [] t.reader nothing wants capacity).1)
 
 -- pieces that are written flush nothing, nor does a send of lines, nor so both
 module _ {S P : Type 0} (tells : S → StreamLog) (trace : S → S → Type 0) (rules : WriteRules P) where
@@ -92,60 +59,23 @@ module _ {S P : Type 0} (tells : S → StreamLog) (trace : S → S → Type 0) (
       )
       of (Err e) m wrote (odd, same) = cc
 
--- an Ok flush is one
-one_flush : {S P : Type 0} (s t : Buffered S P) (x : Unit {0}) → Flushes s (Ok x) t
-    → t.log.writes.flushes ≡ s.log.writes.flushes + 1
-one_flush s t x f = of f.sending f.sends f.ended
-  where
-    of : (sending : Result (Unit {0}) Error) → Sends (length s.block.bytes) s.block s.log sending t.block f.sent_log
-        → MatchResult sending (λ _. t.log ≡ after_flush f.sent_log (Ok x))
-        (λ e. (◌≡◌ {A = Result (Unit {0}) Error} (Ok x) (Err e)) × (t.log ≡ f.sent_log))
-        → t.log.writes.flushes ≡ s.log.writes.flushes + 1
-    of (Ok y) sends told = ap (λ l. l.writes.flushes) told ∙ ap (λ n. n + 1) sends.sent.flushes
-    of (Err e) sends (odd, told) = cc
+-- there is no further line
+pub AreAll-ended : {S P : Type 0} (remaining : S → Option (List ℕ)) (lines : List (List ℕ)) (s t : Splitting S P) → s.byte ≡ 10
+    → s.begun ≡ [] → 0 < s.reader.block.capacity → s.left + length lines + 1 ≡ 2 ^ 64 → Ended remaining std_read_rules s t
+    → AreAll remaining lines s.reader
+AreAll-ended remaining lines s t byte begun room turns (inl (none, same)) = inr (omega (arith, turns, none))
+AreAll-ended remaining lines s t byte begun room turns (inr (count, went, stays)) =
+    let reads = rw (byte, begun) at went.reads in
+    let none : count ≡ 0 = omega (arith, reads.count, ap length reads.appended) in
+    inl (
+      t.reader,
+      (ReadsUntil-end remaining std_read_rules 10 s.reader [] [] t.reader (rw none at reads)
+          (WantsBytes-std s.reader.policy) room).1,
+    )
 
-module _ {S P T Q : Type 0} (remaining : S → Option (List ℕ)) (tells : T → StreamLog) (trace : T → T → Type 0)
-    (joins : (u v x : T) → trace u v → trace v x → trace u x) (word : List ℕ) (from : Buffered S P) (w : Buffered T Q)
-    (lines : List (List ℕ)) (last : Buffered S P) (m : Buffered T Q)
-    (went : FiltersLines remaining tells trace word from w lines last m) where
-  -- the text of one more line was written where it goes on
-  pub FiltersLines-more : (line : List ℕ) (next : Buffered S P) (first : List ℕ) (v : Buffered T Q)
-      → HandsLinePieces remaining std_read_rules (lines ++ line ∷ []) from next
-      → LineGoesThrough word (without_end line) first → WritesAlong tells trace line_rules m first v
-      → v.log.writes.flushes ≡ m.log.writes.flushes
-      → FiltersLines remaining tells trace word from w (lines ++ line ∷ []) next v
-  FiltersLines-more line next first v hands goes along same = record {
-    hands = hands;
-    out = went.out ++ first;
-    goes_on = AllGoOn-more word lines line went.out first went.goes_on goes;
-    along = WritesAlong-joins tells trace line_rules joins w m v went.out first went.along along;
-    unflushed = same ∙ went.unflushed;
-  }
-
-  -- what was accepted was flushed, or couldn't be
-  module _ (v : Buffered T Q)
-      (ended : ((end : Buffered S P) × ReadsToEnd remaining std_read_rules last [] end) ⊎ (2 ^ 64 ≤ length lines + 1)) where
-    pub Filters-flushed : IfSome (reader_remaining remaining std_read_rules from)
-        (λ text. length text + 1 < 2 ^ 64 → AreFirstLines lines text [])
-        → (r : Result (Unit {0}) Error) → WasFlushed tells trace m r v → record {
-          all : IfOk r (λ _. FiltersAll remaining tells trace word from w v);
-          some : IfErr r (λ e. FiltersSome remaining tells trace word from w e v);
-        }
-    Filters-flushed known (Ok x) flushed = record {
-      all = record {
-        lines = lines;
-        last = last;
-        hands = went.hands;
-        ended = ended;
-        known = known;
-        out = went.out;
-        goes_on = went.goes_on;
-        along = FlushedAlong-of tells trace line_rules joins w m v went.out x went.along flushed;
-        once = one_flush m v x flushed.steps ∙ ap (λ n. n + 1) went.unflushed;
-      };
-      some = tt;
-    }
-    Filters-flushed known (Err e) flushed = record {
-      all = tt;
-      some = record { lines = lines; last = last; writer = m; went = went; fails = inr (inr (ended, flushed)) };
-    }
+pub FilterEnded-flush : {S P T Q : Type 0} (remaining : S → Option (List ℕ)) (tells : T → StreamLog) (trace : T → T → Type 0)
+    (word : List ℕ) (from : Buffered S P) (w : Buffered T Q) (lines : List (List ℕ)) (last : Buffered S P) (m : Buffered T Q)
+    (answer : Result (Unit {0}) Error) (v : Buffered T Q) → AreAll remaining lines last → WasFlushed tells trace m answer v
+    → FilterEnded remaining tells trace word from w lines last m answer v
+FilterEnded-flush remaining tells trace word from w lines last m (Ok x) v all flushed = (all, flushed)
+FilterEnded-flush remaining tells trace word from w lines last m (Err e) v all flushed = inr (inr (all, flushed))

@@ -1,11 +1,5 @@
 pub mod FrameState
 pub mod Gaining
-pub mod Closing
-pub mod EmptyAsks
-pub mod Enduring
-pub mod Failing
 pub mod Reporting
-pub mod KnownLines
-pub mod Pieces
+pub mod Lines
 pub mod Filtering
-pub mod WritingOn

@@ -9,6 +9,5 @@ pub mod Progress
 pub mod Records
 pub mod Sifted
 pub mod Sniff
-pub mod Stops
 pub mod Survive
 pub mod Tally

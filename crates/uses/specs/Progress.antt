@@ -12,10 +12,10 @@ Reports step f zero n g = (n ≡ 0) × (g ≡ f)
 Reports {F} step f (suc k) n g = (m : ℕ) × (before : F) × Reports step f k m before
     × ((m < n) ⊎ ((m ≡ n) × (n ≡ 2 ^ 64 - 1))) × step before n g
 
--- in so many calls the callback was last told of so many bytes
-pub record Tells {F : Type 0} (step : F → ℕ → F → Type 0) (report : F) (calls count : ℕ) : Type 0 where
-  pub last : F
-  pub told : Reports step report calls (u64_saturate count) last
+-- the callback was called as often as this count rose, and last told of so many bytes
+abbrev pub Tells : {F : Type 0} → (F → ℕ → F → Type 0) → F → ℕ → ℕ → ℕ → Type 0
+Tells {F} step report before after bytes =
+    (calls : ℕ) × (after ≡ before + calls) × (last : F) × Reports step report calls (u64_saturate bytes) last
 
 -- the error was `Other`, since more bytes went over than a `u64` counts
 pub record TooManyTurns (e : Error) (from from' : FillLog) : Type 0 where

@@ -1,6 +1,6 @@
 //! Copies lines to a writer that tells where one can't be sent.
-ghost use Rattle.std.specs.Prelude.{◌+◌, ◌^◌, ◌<◌, IfErr, IfOk, IfSome, length};
-ghost use Rattle.uses.specs.Filter.{FiltersAll, FiltersSome, FiltersText};
+ghost use Rattle.std.specs.Prelude.{◌<◌, IfOk, IfSome};
+ghost use Rattle.uses.specs.Filter.{Filters, FiltersText};
 
 use buffer_redux::tell::{TellRead, TellWrite, Told};
 use buffer_redux::{BufReader, LineSender, LineWriter};
@@ -17,8 +17,7 @@ pub fn matching<R: TellRead + Drop, W: TellWrite>(
     word: &str,
 ) -> io::Result<()>
     requires capacity { 0 < reader.block.capacity }
-    ensures all { IfOk result (λ _. FiltersAll R.remaining W.log W.trace word.now reader writer.old writer.new) }
-    ensures some { IfErr result (λ e. FiltersSome R.remaining W.log W.trace word.now reader writer.old e writer.new) }
+    ensures { Filters R.remaining W.log W.trace word.now reader writer.old result writer.new }
 {
     for line in reader.lines(alloc) {
         let line = line?;
@@ -36,8 +35,8 @@ pub fn filter<R: Read + Drop, W: Write + Drop>(
     to: W,
     word: &str,
 ) -> io::Result<W>
-    ensures { IfOk result (λ w. IfSome (R.remaining from) (λ text. length text + 1 < 2 ^ 64
-        → FiltersText word.now text (W.contents to) (W.contents w))) }
+    ensures { IfOk result (λ w. IfSome (R.remaining from) (λ text.
+        FiltersText word.now text (W.contents to) (W.contents w))) }
 {
     let reader = BufReader::new(alloc, Told::new(from))?;
     let mut lines = LineSender::new(LineWriter::new(alloc, Told::new(to))?);

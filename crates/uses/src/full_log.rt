@@ -1,10 +1,9 @@
 //! A log that keeps the bytes which its device doesn't take, and sends them later.
-ghost use Rattle.std.specs.Prelude.{◌≡◌, ◌+◌, ◌<◌, ◌≤◌, ◌⊎◌, ℕ, [], ◌++◌, IfErr, OnErr, OnOk, length, take};
+ghost use Rattle.std.specs.Prelude.{◌≡◌, ◌<◌, ◌≤◌, ◌⊎◌, ℕ, [], ◌++◌, IfErr, OnErr, OnOk, length, take};
 ghost use Rattle.buffer_redux.specs.Buffered.{over_buffer};
-ghost use Rattle.buffer_redux.specs.BufWriter.{WritesInOrder};
+ghost use Rattle.buffer_redux.specs.BufWriter.{WriterStopped, WritesInOrder};
 ghost use Rattle.buffer_redux.specs.Unwrapping.{KeepsUnsent};
 ghost use Rattle.uses.specs.FullLog.{ClosesAgain};
-ghost use Rattle.uses.specs.Stops.{DeviceFailed, FailedTimes};
 
 use buffer_redux::tell::TellWrite;
 use buffer_redux::{Buffer, LineWriter};
@@ -18,7 +17,7 @@ pub fn put<W: TellWrite>(log: &mut LineWriter<W>, text: &[u8]) -> (usize, io::Re
     ensures all { OnOk result.1 (result.0 ≡ length text.now) }
     ensures within { result.0 ≤ length text.now }
     ensures some { OnErr result.1 (result.0 < length text.now) }
-    ensures caused { IfErr result.1 (DeviceFailed log.old.log.writes log.new.log.writes) }
+    ensures caused { IfErr result.1 (WriterStopped log.old.log.writes log.new.log.writes) }
     ensures flushes { log.new.log.writes.flushes ≡ log.old.log.writes.flushes }
 {
     let mut at = 0;
@@ -48,7 +47,6 @@ pub fn reopen<W: TellWrite>(device: W, unsent: Buffer) -> LineWriter<W>
 
 /// Closes the log, and tries so many times again to send what is left, as long as something is.
 pub fn close_patiently<W: TellWrite>(log: LineWriter<W>, tries: u32) -> (W, Buffer)
-    ensures tried { (result.1.bytes ≡ []) ⊎ FailedTimes (tries + 1) log.log.writes (W.log result.0).writes }
     ensures often { (again : ℕ) × (again ≤ tries) × ((result.1.bytes ≡ []) ⊎ (again ≡ tries))
         × ClosesAgain W.log W.trace again log result.0 result.1 }
     ensures none_lost { (W.log result.0).writes.received ++ result.1.bytes ≡ log.log.writes.received ++ log.block.bytes }

@@ -4,8 +4,7 @@ ghost use Rattle.buffer_redux.specs.BufReader.{ReadsAlong};
 ghost use Rattle.buffer_redux.specs.EmptyReads.{ReadsWhenEmpty};
 ghost use Rattle.buffer_redux.specs.ReaderLaws.{WantsBytes};
 ghost use Rattle.buffer_redux.specs.Remaining.{reader_remaining};
-ghost use Rattle.uses.specs.LineCount.{CountsLines, line_feeds};
-ghost use Rattle.uses.specs.Stops.{StopsAtOnce};
+ghost use Rattle.uses.specs.LineCount.{CountsLines, StopsAtOnce, line_feeds};
 
 use buffer_redux::BufReader;
 use buffer_redux::policy::ReaderPolicy;

@@ -1,5 +1,5 @@
 //! Copies a reader to a writer, and tells after each write how many bytes went over so far.
-ghost use Rattle.std.specs.Prelude.{◌≡◌, ◌+◌, ◌-◌, ◌≤◌, ◌⊎◌, ℕ, OnOk, IfOk, IfErr, MatchResult};
+ghost use Rattle.std.specs.Prelude.{◌≡◌, ◌+◌, ◌≤◌, ◌⊎◌, ℕ, OnOk, IfOk, IfErr, MatchResult};
 ghost use Rattle.std.specs.Io.Iter.{u64_saturate};
 ghost use Rattle.buffer_redux.specs.Copy.{FillsMade, MovedBy, CopyEnded, StreamFailed, faults_met};
 ghost use Rattle.uses.specs.Progress.{Tells, TooManyTurns};
@@ -19,7 +19,7 @@ pub fn copy_with_progress<B: TellBufRead, W: TellWrite, F: FnMut(u64) + Drop>(
     requires callable { (state : F) (n : _) → F.pre state n }
     ensures moved { (n : ℕ)
         × MovedBy n (B.log from.old).fills (B.log from.new).fills (W.log to.old).writes (W.log to.new).writes
-        × Tells (λ p n q. F.step p n tt q) report ((B.log from.new).fills.consumes - (B.log from.old).fills.consumes) n
+        × Tells (λ p n q. F.step p n tt q) report (B.log from.old).fills.consumes (B.log from.new).fills.consumes n
         × IfOk result (λ total. total ≡ u64_saturate n) }
     ensures ended { OnOk result (CopyEnded W.log W.trace W.call
         (B.log from.old).fills (B.log from.new).fills to.old to.new) }

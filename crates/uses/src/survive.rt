@@ -4,8 +4,7 @@ ghost use Rattle.std.specs.Prelude.{vec_items, vec_len, vec_capacity};
 ghost use Rattle.buffer_redux.specs.BufReader.{RanDry};
 ghost use Rattle.buffer_redux.specs.EmptyReads.{ReadsWhenEmpty};
 ghost use Rattle.buffer_redux.specs.ReaderLaws.{WantsBytes};
-ghost use Rattle.uses.specs.Stops.{Endures, MayGoOn};
-ghost use Rattle.uses.specs.Survive.{Gains, TurnFailed, TurnMoved};
+ghost use Rattle.uses.specs.Survive.{Endures, Gains, MayGoOn, TurnFailed, TurnMoved};
 
 use buffer_redux::BufReader;
 use buffer_redux::policy::ReaderPolicy;

@@ -1,16 +1,15 @@
-//! Counts lines by `read_until`, and writes a count beside a line.
-ghost use Rattle.std.specs.Prelude.{◌≡◌, ◌<◌, ◌⊎◌, true, IfOk, IfErr};
-ghost use Rattle.buffer_redux.specs.BufWriter.{FrontAlong, LeavesCapacity, WriterStopped};
-ghost use Rattle.buffer_redux.specs.Faults.{IsMemory};
+//! Counts lines by `read_until`.
+ghost use Rattle.std.specs.Prelude.{◌<◌, ℕ, List, IfErr, IfOk, OnOk};
+ghost use Rattle.buffer_redux.specs.BufReader.{ReadsToEnd};
 ghost use Rattle.buffer_redux.specs.ReaderLaws.{WantsBytes};
-ghost use Rattle.uses.specs.Tally.{ReadsPieces, StopsInPieces, tally_text};
+ghost use Rattle.uses.specs.Tally.{ReadsLines, StopsInLines};
 
-use buffer_redux::policy::{ReaderPolicy, WriterPolicy};
-use buffer_redux::tell::{TellRead, TellWrite};
-use buffer_redux::{BufReader, BufWriter};
+use buffer_redux::BufReader;
+use buffer_redux::policy::ReaderPolicy;
+use buffer_redux::tell::TellRead;
 use std::alloc::Global;
 use std::io;
-use std::io::{ErrorKind, Write};
+use std::io::ErrorKind;
 
 /// How many lines `reader` still has, of which the last may lack its line feed. It reads to the end.
 ///
@@ -21,8 +20,9 @@ pub fn count_pieces<R: TellRead, P: ReaderPolicy>(
 ) -> io::Result<u64>
     requires capacity { 0 < reader.old.block.capacity }
     requires wants { WantsBytes (P.rules.claims reader.old.policy) }
-    ensures pieces { IfOk result (λ n. ReadsPieces R.remaining P.rules n reader.old reader.new) }
-    ensures stopped { IfErr result (λ e. StopsInPieces R.remaining P.rules e reader.old reader.new) }
+    ensures end { OnOk result ((bytes : List ℕ) × ReadsToEnd R.remaining P.rules reader.old bytes reader.new) }
+    ensures pieces { IfOk result (λ n. ReadsLines R.remaining P.rules n reader.old reader.new) }
+    ensures stopped { IfErr result (λ e. StopsInLines R.remaining P.rules e reader.old reader.new) }
 {
     let mut line = Vec::new(alloc);
     for count in 0..u64::MAX {
@@ -32,25 +32,4 @@ pub fn count_pieces<R: TellRead, P: ReaderPolicy>(
         }
     }
     Err(io::Error::from(ErrorKind::Other))
-}
-
-/// Writes a count, a space, and a line with a line feed behind it. After an `Err` a beginning of that was accepted, or nothing
-/// was done for want of memory. It flushes nothing.
-pub fn write_tally<W: TellWrite, P: WriterPolicy>(
-    alloc: Global,
-    writer: &mut BufWriter<W, P>,
-    count: u64,
-    line: &[u8],
-) -> io::Result<()>
-    ensures front { FrontAlong W.log W.trace P.rules writer.old (tally_text count line.now) result writer.new }
-    ensures caused { (P.rules.claims writer.old.policy).steady ≡ true
-        → IfErr result (λ e. WriterStopped writer.old.log.writes writer.new.log.writes e
-        ⊎ (IsMemory e × (writer.new ≡ writer.old))) }
-    ensures flushes { writer.new.log.writes.flushes ≡ writer.old.log.writes.flushes }
-    ensures capacity { LeavesCapacity P.rules → writer.new.block.capacity ≡ writer.old.block.capacity }
-{
-    let head = format!(in alloc; "{count} ")?;
-    writer.write_all(head.as_bytes())?;
-    writer.write_all(line)?;
-    writer.write_all(b"\n")
 }

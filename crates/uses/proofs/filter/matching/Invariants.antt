@@ -1,8 +1,5 @@
 use Rattle.std.proofs.Common.{◌≡◌, ℕ, ◌+◌, ◌^◌, List, [], length}
-use Rattle.buffer_redux.specs.Policy.{std_read_rules}
-use Rattle.buffer_redux.specs.Remaining.{reader_remaining}
 use Rattle.uses.specs.Filter.{FiltersLines}
-use Rattle.uses.proofs.KnownLines.{FirstKnown}
 use Rattle.uses.proofs.filter.matching.Given as goal
 
 -- just what goes on of the lines so far was accepted
@@ -14,6 +11,4 @@ invariant-loop-line g l = record {
   byte : l.line-iterator.byte ≡ 10;
   begun : l.line-iterator.begun ≡ [];
   turns : l.line-iterator.left + length lines + 1 ≡ 2 ^ 64;
-  known : FirstKnown lines (reader_remaining g.R.TellRead.remaining std_read_rules l.fn.reader)
-      (reader_remaining g.R.TellRead.remaining std_read_rules l.line-iterator.reader);
 }

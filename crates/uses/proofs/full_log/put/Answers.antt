@@ -1,9 +1,9 @@
 -- Each write takes a front of what is left of the text, so all of them took a front of it; no policy refuses one.
-use Rattle.std.proofs.Common.{length, ap, arith, length-drop, refl, inl, inr}
+use Rattle.std.proofs.Common.{length, ap, arith, length-drop, refl, inl, inr, ◌∙◌}
 use Rattle.std.proofs.lemmas.Slice.{between_to_end}
-use Rattle.buffer_redux.specs.WriterLaws.{WritesInOrder-piece, WritesInOrder-then}
 use Rattle.buffer_redux.specs.LogGrows.{WriteLogGrows-joins}
-use Rattle.uses.proofs.Failing.{DeviceFailed-sent}
+use Rattle.buffer_redux.specs.WriterLaws.{WritesInOrder-piece, WritesInOrder-then}
+use Rattle.buffer_redux.specs.WritesAlongLaws.{WriterStopped-after, WriterStopped-send}
 use Rattle.uses.proofs.full_log.put.Goals as goal
 
 pub loop-at-preserved : goal.loop-at-preserved
@@ -11,25 +11,17 @@ loop-at-preserved g c =
     let at = c.loop-at.at in
     let text = c.args.text.now in
     let before = c.loop-at.invariant in
+    let wrote = c.in-Ok.ensures in
     let rest = ap length (between_to_end text at (length text) (omega arith)) in record {
-      within = omega (arith, c.in-Ok.ensures.bound, rest, length-drop at text);
-      grows = WriteLogGrows-joins _ _ _ before.grows c.in-Ok.ensures.keeps.grows;
-      flushes = omega (arith, before.flushes, c.in-Ok.ensures.keeps.flushes);
-      taken = WritesInOrder-piece _ _ _ text at _ before.within before.taken c.in-Ok.ensures.in_order;
+      within = omega (arith, wrote.bound, rest, length-drop at text);
+      grows = WriteLogGrows-joins _ _ _ before.grows wrote.keeps.grows;
+      flushes = wrote.keeps.flushes ∙ before.flushes;
+      taken = WritesInOrder-piece _ _ _ text at _ before.within before.taken wrote.in_order;
     }
 
 pub returns-in-Ok-eq0-clause-taken : goal.returns-in-Ok-eq0-clause-taken
 returns-in-Ok-eq0-clause-taken g c = WritesInOrder-then _ c.loop-at.log _ _ c.loop-at.invariant.taken
     (rw c.in-Ok-eq0.field-0-test at c.in-Ok-eq0.ensures.in_order)
-
-pub returns-in-Err-clause-taken : goal.returns-in-Err-clause-taken
-returns-in-Err-clause-taken g c = WritesInOrder-then _ c.loop-at.log _ _ c.loop-at.invariant.taken c.in-Err.ensures.in_order
-
-pub returns-in-Err-clause-caused : goal.returns-in-Err-clause-caused
-returns-in-Err-clause-caused g c = elim c.in-Err.ensures.caused [
-  | inl refused ↦ absurd refused.asked.allowed
-  | inr sent ↦ DeviceFailed-sent c.loop-at.invariant.grows sent
-]
 
 pub returns-in-Ok-eq0-clause-caused : goal.returns-in-Ok-eq0-clause-caused
 returns-in-Ok-eq0-clause-caused g c =
@@ -48,10 +40,23 @@ returns-in-Ok-eq0-clause-caused g c =
     })
 
 pub returns-in-Ok-eq0-clause-flushes : goal.returns-in-Ok-eq0-clause-flushes
-returns-in-Ok-eq0-clause-flushes g c = omega (arith, c.loop-at.invariant.flushes, c.in-Ok-eq0.ensures.keeps.flushes)
+returns-in-Ok-eq0-clause-flushes g c = c.in-Ok-eq0.ensures.keeps.flushes ∙ c.loop-at.invariant.flushes
+
+pub returns-in-Err-clause-taken : goal.returns-in-Err-clause-taken
+returns-in-Err-clause-taken g c = WritesInOrder-then _ c.loop-at.log _ _ c.loop-at.invariant.taken c.in-Err.ensures.in_order
+
+pub returns-in-Err-clause-caused : goal.returns-in-Err-clause-caused
+returns-in-Err-clause-caused g c =
+    let log = c.loop-at.log.log.writes in
+    let last = c.write.new.self.log.writes in
+    elim c.in-Err.ensures.caused [
+      | inl refused ↦ absurd refused.asked.allowed
+      | inr sent ↦ WriterStopped-after c.args.log.now.log.writes log last c.in-Err.e c.loop-at.invariant.grows
+          (WriterStopped-send log last c.in-Err.e sent)
+    ]
 
 pub returns-in-Err-clause-flushes : goal.returns-in-Err-clause-flushes
-returns-in-Err-clause-flushes g c = omega (arith, c.loop-at.invariant.flushes, c.in-Err.ensures.keeps.flushes)
+returns-in-Err-clause-flushes g c = c.in-Err.ensures.keeps.flushes ∙ c.loop-at.invariant.flushes
 
 pub returns-clause-flushes : goal.returns-clause-flushes
 returns-clause-flushes g c = c.loop-at.invariant.flushes

@@ -5,7 +5,7 @@ use Rattle.std.proofs.lemmas.Result.{err_from_is_err_and}
 use Rattle.buffer_redux.specs.EmptyReads.{none_before_fault, none_where_shown, fill_once}
 use Rattle.buffer_redux.specs.ReaderLaws.{FillBuf-along, ReadsAlong-none, ReadsAlong-shown, ReadsAlong-then, ReadsToEnd-of, ReadsToEnd-known}
 use Rattle.uses.specs.LineCount.{line_feeds}
-use Rattle.uses.proofs.Enduring.{seen}
+use Rattle.uses.proofs.Gaining.{seen}
 use Rattle.uses.proofs.line_count.count_lines.Goals.{else-loop-test, then-loop-test+in_ok-shown+else-len-eq0+in-None}
 use Rattle.uses.proofs.line_count.count_lines.Goals as goal
 
@@ -41,59 +41,23 @@ loop-preserved g c =
           ∙ before.quiet orders;
     }
 
-pub returns-then-len-eq0-clause-lines : goal.returns-then-len-eq0-clause-lines
-returns-then-len-eq0-clause-lines g c =
+pub returns-then-len-eq0 : goal.returns-then-len-eq0
+returns-then-len-eq0 g c =
     let before = c.loop.invariant in
-    let filled = rw c.in_ok-shown.was at c.fill_buf.follows.holds-at-none in record {
-      bytes = before.handed;
-      end = ReadsToEnd-of _ _ _ _ _ _ _ before.along filled c.requires.wants c.requires.capacity c.if-len-eq0.true;
-      count = before.count;
+    let filled = rw c.in_ok-shown.was at c.fill_buf.follows.holds-at-none in
+    let end = ReadsToEnd-of _ _ _ _ _ _ _ before.along filled c.requires.wants c.requires.capacity c.if-len-eq0.true in
+    record {
+      lines = record { bytes = before.handed; end = end; count = before.count };
+      caused = λ _. tt;
+      once = λ orders. omega (
+        arith,
+        before.quiet orders,
+        end.dry,
+        fill_once g.P.ReaderPolicy.rules _ _ (Ok c.in_ok-shown.shown) filled.fills.filled,
+      );
+      part = tt;
+      known = ReadsToEnd-known _ _ _ before.handed _ (λ xs. c.loop.lines ≡ line_feeds xs) end before.count;
     }
-
-pub returns-then-len-eq0-clause-known : goal.returns-then-len-eq0-clause-known
-returns-then-len-eq0-clause-known g c =
-    let lines = returns-then-len-eq0-clause-lines g c in
-    ReadsToEnd-known _ _ _ lines.bytes _ (λ xs. c.loop.lines ≡ line_feeds xs) lines.end lines.count
-
-pub returns-clause-caused : goal.returns-clause-caused
-returns-clause-caused g c steady =
-    let before = c.loop.invariant in
-    inr (record {
-      other = c.from.ensures;
-      large = elim c.loop-test.branch [
-        | else-loop-test w ↦ omega (
-          arith,
-          before.turns,
-          seen before.along.in_order,
-          w.loop-test.false,
-          ap (λ r. length r.log.reads.given) w.reader-is,
-        )
-        | then-loop-test+in_ok-shown+else-len-eq0+in-None w ↦
-            (let filled = rw w.in_ok-shown.was at w.fill_buf.follows.holds-at-none in
-            let none = w.in-None.ensures in
-            omega (
-              arith,
-              none,
-              before.count,
-              count_by-le-length (λ b. b == 10) before.handed,
-              w.count_line_feeds-found.ensures,
-              count_by-le-length (λ b. b == 10) w.in_ok-shown.shown.now,
-              seen before.along.in_order,
-              seen filled.fills.in_order,
-              ap length filled.shown,
-              ap (λ r. length r.log.reads.given) w.reader-is,
-            ))
-      ];
-    })
-
-pub returns-then-len-eq0-clause-once : goal.returns-then-len-eq0-clause-once
-returns-then-len-eq0-clause-once g c orders =
-    let filled = rw c.in_ok-shown.was at c.fill_buf.follows.holds-at-none in omega (
-      arith,
-      c.loop.invariant.quiet orders,
-      (returns-then-len-eq0-clause-lines g c).end.dry,
-      fill_once g.P.ReaderPolicy.rules _ _ (Ok c.in_ok-shown.shown) filled.fills.filled,
-    )
 
 pub returns-in_err-shown-clause-once : goal.returns-in_err-shown-clause-once
 returns-in_err-shown-clause-once g c orders =
@@ -104,32 +68,49 @@ returns-in_err-shown-clause-once g c orders =
 pub returns-in_err-shown-clause-part : goal.returns-in_err-shown-clause-part
 returns-in_err-shown-clause-part g c =
     let p = err_from_is_err_and c.from_residual.result c.from_residual.ensures.1 in
-    let before = c.loop.invariant in
-    rw p.1 (
-      before.handed,
-      ReadsAlong-then _ _ _ _ _ _ before.along (FillBuf-along _ _ _ _ _ c.fill_buf.follows.holds-at-none),
-    )
+    let along = FillBuf-along _ _ _ _ _ c.fill_buf.follows.holds-at-none in
+    rw p.1 (c.loop.invariant.handed, ReadsAlong-then _ _ _ _ _ _ c.loop.invariant.along along)
 
-pub returns-clause-once : goal.returns-clause-once
-returns-clause-once g c orders =
+pub returns : goal.returns
+returns g c =
+    let before = c.loop.invariant in
     elim c.loop-test.branch [
-      | else-loop-test w ↦ ap (λ r. r.log.reads.zero_reads) w.reader-is ∙ c.loop.invariant.quiet orders
+      | else-loop-test w ↦ rw w.reader-is (record {
+        lines = tt;
+        caused = λ _. inr (record {
+          other = c.from.ensures;
+          large = omega (arith, before.turns, seen before.along.in_order, w.loop-test.false);
+        });
+        once = before.quiet;
+        part = (before.handed, before.along);
+        known = tt;
+      })
       | then-loop-test+in_ok-shown+else-len-eq0+in-None w ↦
           (let filled = rw w.in_ok-shown.was at w.fill_buf.follows.holds-at-none in
-          ap (λ r. r.log.reads.zero_reads) w.reader-is
-          ∙ none_where_shown g.P.ReaderPolicy.rules orders _ _ w.in_ok-shown.shown filled.fills.filled
-          (omega (arith, w.if-len-eq0.false, ap length filled.shown))
-          ∙ c.loop.invariant.quiet orders)
-    ]
-
-pub returns-clause-part : goal.returns-clause-part
-returns-clause-part g c =
-    let before = c.loop.invariant in
-    elim c.loop-test.branch [
-      | else-loop-test w ↦ (before.handed, rw w.reader-is before.along)
-      | then-loop-test+in_ok-shown+else-len-eq0+in-None w ↦ (
-        before.handed,
-        rw w.reader-is (ReadsAlong-then _ _ _ _ _ _ before.along
-            (FillBuf-along _ _ _ _ _ w.fill_buf.follows.holds-at-none)),
-      )
+          rw w.reader-is (record {
+            lines = tt;
+            caused = λ _. inr (record {
+              other = c.from.ensures;
+              large = omega (
+                arith,
+                w.in-None.ensures,
+                before.count,
+                count_by-le-length (λ b. b == 10) before.handed,
+                w.count_line_feeds-found.ensures,
+                count_by-le-length (λ b. b == 10) w.in_ok-shown.shown.now,
+                seen before.along.in_order,
+                seen filled.fills.in_order,
+                ap length filled.shown,
+              );
+            });
+            once = λ orders. none_where_shown g.P.ReaderPolicy.rules orders _ _ w.in_ok-shown.shown filled.fills.filled
+                (omega (arith, w.if-len-eq0.false, ap length filled.shown))
+                ∙ before.quiet orders;
+            part = (
+              before.handed,
+              ReadsAlong-then _ _ _ _ _ _ before.along
+                  (FillBuf-along _ _ _ _ _ w.fill_buf.follows.holds-at-none),
+            );
+            known = tt;
+          }))
     ]

@@ -1,5 +1,5 @@
 -- A fill under a minimum of 16 bytes or more shows the first 16 that are left, or all, and drops none.
-use Rattle.std.proofs.Common.{◌≡◌, ℕ, List, Option, IfSome, take, unwrap_or, refl, ap, ◌∙◌}
+use Rattle.std.proofs.Common.{ℕ, take, unwrap_or, refl, sym, ap, ◌∙◌}
 use Rattle.std.proofs.lemmas.List.{take_min}
 use Rattle.std.proofs.lemmas.Option.{IfSome_then}
 use Rattle.buffer_redux.specs.MinBuffered.{min_read_rules}
@@ -10,7 +10,6 @@ use Rattle.buffer_redux.specs.declared.policy.min_buffered.MinBuffered.{MinBuffe
 use Rattle.uses.specs.Sniff.{format_of}
 use Rattle.buffer_redux.specs.EmptyReads.{fill_once}
 use Rattle.uses.proofs.sniff.sniff.Goals as goal
-use Rattle.uses.proofs.sniff.sniff.Goals.{After-reader-2-1}
 
 abbrev of_claims : ReadClaims → MinBuffered
 of_claims c = record { 0 = unwrap_or {T = ℕ} c.minimum 0 }
@@ -22,25 +21,19 @@ returns-clause-policy g c = ap of_claims c.fill_buf.follows.holds-at-none.fills.
 pub returns-in_err-shown-clause-policy : goal.returns-in_err-shown-clause-policy
 returns-in_err-shown-clause-policy g c = ap of_claims c.fill_buf.follows.holds-at-none.fills.claims
 
--- by the first sixteen bytes that are shown
-by_shown : (g : _) (c : After-reader-2-1 g)
-    → c.format_by.result ≡ format_of (take 16 c.in_ok-shown.shown.now)
-by_shown g c = c.format_by.ensures ∙ ap (λ n. format_of (take n c.in_ok-shown.shown.now)) c.min.ensures
-    ∙ ap format_of (take_min 16 c.in_ok-shown.shown.now)
-
 pub returns-clause-format : goal.returns-clause-format
-returns-clause-format g c = by_shown g c
+returns-clause-format g c =
+    let shown = c.in_ok-shown.shown.now in
+    c.format_by.ensures ∙ ap (λ n. format_of (take n shown)) c.min.ensures ∙ ap format_of (take_min 16 shown)
     ∙ ap (λ l. format_of (take 16 l)) (rw c.in_ok-shown.was at c.fill_buf.follows.holds-at-none.shown)
 
 pub returns-clause-known : goal.returns-clause-known
 returns-clause-known g c =
-    let s = c.args.reader.now in
-    let shown = c.in_ok-shown.shown in
-    let known : Option (List ℕ) = reader_remaining g.R.TellRead.remaining min_read_rules s in
-    let first : IfSome known (λ xs. take 16 shown.now ≡ take 16 xs) =
-    FillBuf-first _ min_read_rules 16 _ s shown _ c.requires.enough refl
-    (rw c.in_ok-shown.was at c.fill_buf.follows.holds-at-none) in
-    IfSome_then known first (λ xs same. by_shown g c ∙ ap format_of same)
+    let known = reader_remaining g.R.TellRead.remaining min_read_rules c.args.reader.now in
+    let filled = rw c.in_ok-shown.was at c.fill_buf.follows.holds-at-none in
+    IfSome_then known
+    (FillBuf-first _ min_read_rules 16 _ c.args.reader.now c.in_ok-shown.shown _ c.requires.enough refl filled)
+    (λ xs same. returns-clause-format g c ∙ ap (λ l. format_of (take 16 l)) (sym filled.shown) ∙ ap format_of same)
 
 pub returns-clause-left : goal.returns-clause-left
 returns-clause-left g c = FillBuf-keeps _ _ _ _ _ c.fill_buf.follows.holds-at-none

@@ -46,15 +46,12 @@ pub returns-clause-once : goal.returns-clause-once
 returns-clause-once g c orders =
     let filled = rw c.in_ok-shown.was at c.fill_buf.follows.holds-at-none in
     let told = ap (λ l. l.reads.zero_reads) c.consume.ensures.consumed.told in (
-      λ none.
-          let end = ReadsToEnd-of _ _ _ _ [] _ _ (ReadsAlong-none _ _ _) filled c.requires.wants c.requires.capacity
-          (omega (arith, none)) in
-          omega (
-            arith,
-            told,
-            end.dry,
-            fill_once g.P.ReaderPolicy.rules _ _ (Ok c.in_ok-shown.shown) filled.fills.filled,
-          ),
+      λ none. omega (
+        arith,
+        told,
+        returns-clause-dry g c (ap Ok none),
+        fill_once g.P.ReaderPolicy.rules _ _ (Ok c.in_ok-shown.shown) filled.fills.filled,
+      ),
       λ some. told ∙ none_where_shown g.P.ReaderPolicy.rules orders _ _ c.in_ok-shown.shown filled.fills.filled
           (omega (arith, some, ap length filled.shown)),
     )
