@@ -1,6 +1,6 @@
 -- What was sent before a further head was asked for.
-use Rattle.std.proofs.Common.{◌≡◌, ◌⊎◌, ◌∙◌, ◌<◌, ◌+◌, ℕ, Bool, true, false, MatchBool, List, [], ◌∷◌, ◌++◌, length, Option, None, Some, Ok, Err, inl, inr, ap, refl, sym, subst, arith, length-append}
-use Rattle.requests.proofs.Names.{AskedOver, AskedOver-on, AskedWhere, AsksNone-settled, AwaitsHead, AwaitsMore, BadHead, body_rules, BodyCoding, Breaks, Buffered, empty_reads, EndsEarly, Error, HandsOutInOrder-joins, Heads, heads, heads_lawful, InBody, InsideGoes, IsBodyReader, IsOpen, IsSettled, LeadsOpen, left_of, Malformed, NextAnswer, NextPiece, nil_from_length, NoEnd, one_ahead, PiecesWent-stream, PiecesWent-unasked, Prompt, Reader, ReaderState, rest, SendsUnless, Side, StdPolicy, stream_in, StreamLog, TookWholeBody, Unbuffered, usual}
+use Rattle.std.proofs.Common.{◌≡◌, ◌∙◌, ◌<◌, ◌+◌, ℕ, Bool, true, false, MatchBool, List, [], ◌∷◌, ◌++◌, length, Option, None, Some, Ok, Err, inl, inr, ap, refl, sym, subst, arith, length-append}
+use Rattle.requests.proofs.Names.{AskedOver, AskedOver-on, AskedWhere, AsksNone-settled, AwaitsHead, AwaitsMore, BadHead, body_rules, Buffered, empty_reads, Error, HandsOutInOrder-joins, Heads, heads, heads_lawful, InBody, InsideGoes, IsBodyReader, IsOpen, IsSettled, LeadsOpen, left_of, NextAnswer, NextPiece, nil_from_length, NoEnd, NoneLeft, one_ahead, PiecesWent-stream, PiecesWent-unasked, Prompt, ReaderState, rest, SendsUnless, StdPolicy, stream_in, StreamLog, TookWholeBody, Unbuffered, usual}
 use Rattle.codec.specs.declared.NextError.TheVariants as why
 use Rattle.requests.proofs.Sending.{Prompt-asked, Prompt-on, Prompt-read, Prompt-unsent}
 use Rattle.requests.proofs.Reading.{begins_on, inside_went, wrong_unasked}
@@ -53,7 +53,7 @@ settled_where s t same (Err (why.Io e)) next = absurd (omega (
 ))
 
 -- and where nothing is settled the stream is asked
-asks_where : {R : Type 0} {remaining : R → Option (List ℕ)} (s t : ReaderState R Heads) (answer : NextAnswer BadHead)
+pub asks_where : {R : Type 0} {remaining : R → Option (List ℕ)} (s t : ReaderState R Heads) (answer : NextAnswer BadHead)
     → NextPiece remaining (heads usual) s answer t → (¬ (IsSettled (heads usual) s))
     → AskedOver (AwaitsHead []) (left_of s) (left_of t)
 asks_where s t answer next unsettled = elim next.asked [
@@ -61,18 +61,13 @@ asks_where s t answer next unsettled = elim next.asked [
   | inr over ↦ over.1
 ]
 
--- no more is buffered that can be handed out
-abbrev pub NoneLeft : {R : Type 0} → BodyCoding → Reader R → ℕ → ℕ → Type 0
-NoneLeft c d count asked = (count ≡ asked) ⊎ (TookWholeBody (body_rules c) d ⊎ (EndsEarly (body_rules c) d
-    ⊎ ((why : Side (Unit {0}) Malformed) × Breaks (body_rules c) why d)))
-
 -- a body of which something is buffered, and can't be handed out, isn't asked for
 shown_unasked : {R : Type 0} (count : ℕ) (out : List ℕ) (m t : InBody R) → IsBodyReader (body_rules m.body.coding) m.body
     → count ≡ 0 → 0 < length out → ¬ (TookWholeBody (body_rules m.body.coding) m.body)
-    → NoneLeft m.body.coding m.body count (length out)
+    → (0 < length (stream_in m).left → NoneLeft m.body.coding m.body count (length out))
     → AskedWhere (LeadsOpen (body_rules m.body.coding) m.body.place []) (stream_in m) (stream_in t)
     → 0 < length (stream_in m).left → (stream_in t).log ≡ (stream_in m).log
-shown_unasked count out m t whole zero some goes_on short asked shown = elim short [
+shown_unasked count out m t whole zero some goes_on short asked shown = elim (short shown) [
   | inl same ↦ absurd (omega (arith, same, zero, some))
   | inr none ↦ elim none [
     | inl done ↦ absurd (goes_on done)
@@ -116,7 +111,8 @@ module _ {R W : Type 0} {remaining : R → Option (List ℕ)} {tells : W → Str
   -- or it was, and then the stream was asked for more
   pub comes_inside : {then : List ℕ} (t : InBody R) (count : ℕ) (out : List ℕ) → InsideGoes remaining m then t
       → SendsUnless tells trace (0 < length (stream_in m).left) w (Ok tt) v → count ≡ 0 → 0 < length out
-      → ¬ (TookWholeBody (body_rules m.body.coding) m.body) → NoneLeft m.body.coding m.body count (length out)
+      → ¬ (TookWholeBody (body_rules m.body.coding) m.body)
+      → (0 < length (stream_in m).left → NoneLeft m.body.coding m.body count (length out))
       → AskedWhere (LeadsOpen (body_rules m.body.coding) m.body.place []) (stream_in m) (stream_in t)
       → ((stream_in m).left ≡ [] → ¬ (TookWholeBody (body_rules m.body.coding) m.body)
       → (stream_in m).log.reads.asks < (stream_in t).log.reads.asks)

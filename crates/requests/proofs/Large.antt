@@ -1,9 +1,10 @@
 -- Which bodies are too large.
-use Rattle.std.proofs.Common.{◌≡◌, ℕ, ◌+◌, ◌-◌, ◌*◌, ◌^◌, ◌≤◌, ◌⊎◌, ◌++◌, ◌||◌, nat_lt, min, Bool, true, false, List, [], Option, length, sym, ap, subst, inl, inr, ◌∙◌, refl, arith, append-nil}
-use Rattle.requests.proofs.Names.{body_rules, BodyCoding, cases_lt, coding_of, Enters, false≢true, AwaitsMore, handed_of, InBody, InsideGoes, is_large, IsAwaited, IsBodyReader, le-ltb, LeadsOpen, lt-ltb, max_payload, TurnsLarge, usual}
+use Rattle.std.proofs.Common.{◌≡◌, ℕ, ◌+◌, ◌-◌, ◌*◌, ◌^◌, ◌≤◌, ◌⊎◌, ◌++◌, ◌||◌, nat_lt, min, Bool, false, List, [], Option, drop, length, length-drop, take, take-append-drop, sym, ap, subst, inl, inr, ◌∙◌, refl, arith, append-nil}
+use Rattle.requests.proofs.Names.{body_rules, BodyCoding, cases_lt, coding_of, Enters, false≢true, AwaitsMore, handed_of, InBody, InsideGoes, is_large, IsAwaited, IsBodyReader, le-ltb, LeadsOpen, length-take-le, lt-ltb, max_payload, Side, usual, BodyPlace as Place}
 use Rattle.body_reader.specs.Coding.{Leads, heeded}
 use Rattle.body_reader.specs.declared.either.Either.TheVariants as which
 use Rattle.messages.specs.declared.head.Extent.{Extent}
+use Rattle.requests.specs.Large.{IsNewlyLarge, usual_rules}
 use Rattle.messages.specs.declared.head.Extent.TheVariants.{Sized, Chunked}
 
 -- a count of what was taken ends far beyond that
@@ -40,24 +41,56 @@ tested e e' m n taken b is same count = sym (is ∙ ap (λ x. is_large x m n) sa
     ∙ large_counted e' (length taken) n)
 
 -- what was read is no older than the last read, where it wasn't too large before that
-pub turns_large : {S : Type 0} {remaining : S → Option (List ℕ)} {m t : InBody S} {last : List ℕ} {n : ℕ}
-    → IsBodyReader (body_rules m.body.coding) m.body → InsideGoes remaining m last t
+pub newly_large : {S : Type 0} {remaining : S → Option (List ℕ)} {m t : InBody S} {last : List ℕ}
+    → IsBodyReader (body_rules m.body.coding) m.body → (goes : InsideGoes remaining m last t)
     → (last ≡ []) ⊎ ((last ≡ t.body.calls.reads.latest) × (length last ≤ 4096))
-    → is_large t.said.extent (length m.body.taken) (length (handed_of m.body)) ≡ false
-    → n ≡ length (handed_of t.body) → is_large t.said.extent (length t.body.taken) n ≡ true → TurnsLarge t
-turns_large {m = m} {t = t} {last = last} whole goes noted small many large = record {
-  large = ap (is_large t.said.extent (length t.body.taken)) (sym many) ∙ large;
-  fresh = inr (
-    m.body,
-    goes.went.wire,
-    last,
-    subst (λ c. IsBodyReader (body_rules c) m.body) (sym goes.went.coding) whole,
-    goes.went.taken,
-    goes.went.handed,
-    noted,
-    small,
-  );
-}
+    → is_large m.said.extent (length m.body.taken) (length (handed_of m.body)) ≡ false → IsNewlyLarge t
+newly_large {m = m} {t = t} {last = last} whole goes noted small = inr (
+  m.body,
+  goes.went.wire,
+  last,
+  subst (λ c. IsBodyReader (body_rules c) m.body) (sym goes.went.coding) whole,
+  goes.went.taken,
+  goes.went.handed,
+  noted,
+  subst (λ x. is_large x.extent (length m.body.taken) (length (handed_of m.body)) ≡ false) (sym goes.said) small,
+)
+
+-- what was taken of a body that isn't too large is less than is counted
+few_within : (extent : Extent) (n : ℕ) (taken handed follow : List ℕ) (place : Side ℕ Place)
+    → Leads (usual_rules extent) (usual_rules extent).first taken handed place follow → is_large extent (length taken) n ≡ false
+    → length taken ≤ 7 * max_payload
+few_within (Sized all) n taken handed follow place leads small =
+    let fits : all ≤ max_payload = elim (cases_lt max_payload all) [
+      | inl over ↦ absurd (false≢true (sym small
+          ∙ ap (λ b. b || nat_lt max_payload all) (le-ltb max_payload n (few_counted (Sized all) (length taken) n small))
+          ∙ lt-ltb max_payload all over))
+      | inr few ↦ few
+    ] in
+    elim (cases_lt all (length taken)) [
+      | inl more ↦ (let past = leads.within (take all taken) (take all taken) (drop all taken)
+          (length-take-le all taken (omega (arith, more)), refl) (sym (take-append-drop all taken)) in
+          absurd (omega (arith, more, ap length past, length-drop all taken)))
+      | inr few ↦ omega (arith, few, fits)
+    ]
+few_within Chunked n taken handed follow place leads small =
+    let few = few_counted Chunked (length taken) n small in
+    elim (cases_lt (16384 + 6 * n) (length taken)) [
+      | inl over ↦ absurd (false≢true (sym small
+          ∙ ap (λ b. b || nat_lt (16384 + 6 * n) (length taken)) (le-ltb max_payload n few)
+          ∙ lt-ltb (16384 + 6 * n) (length taken) over))
+      | inr less ↦ omega (arith, less, few)
+    ]
+
+pub few_taken : {S : Type 0} {remaining : S → Option (List ℕ)} {b m : InBody S} {payload : List ℕ} (n : ℕ) → Enters usual b
+    → InsideGoes remaining b payload m → is_large m.said.extent (length m.body.taken) n ≡ false
+    → length m.body.taken ≤ 7 * max_payload
+few_taken {b = b} {m = m} n enters goes small =
+    let coding : m.body.coding ≡ coding_of usual b.said.extent = goes.went.coding ∙ ap (λ x. x.body.coding) enters.is in
+    few_within b.said.extent n m.body.taken (handed_of m.body) _ m.body.place
+    (subst (λ c. Leads (body_rules c) (body_rules c).first m.body.taken (handed_of m.body) m.body.place
+    (heeded (body_rules c) m.body.reader.block.bytes)) coding goes.whole.leads)
+    (subst (λ x. is_large x.extent (length m.body.taken) n ≡ false) goes.said small)
 
 -- neither coding heeds what follows
 unheeded : (c : BodyCoding) (follow : List ℕ) → heeded (body_rules c) follow ≡ []

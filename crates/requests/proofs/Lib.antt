@@ -1,8 +1,8 @@
 pub mod Answering
 pub mod Coming
 pub mod Large
+pub mod Interrupted
 pub mod Reading
-pub mod RowLaws
 pub mod Sending
 pub mod Turns
 pub mod Names

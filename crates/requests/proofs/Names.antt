@@ -28,7 +28,7 @@ pub use Rattle.messages.specs.declared.error.BodyError.TheVariants.{Io, Truncate
 pub use Rattle.messages.specs.declared.head.Heads.{Heads}
 pub use Rattle.messages.specs.declared.head.ParsedHead.{ParsedHead}
 pub use Rattle.redux_buffer.specs.Faults.{FaultAfterInterrupts, FaultAfterInterrupts-after, OnlyInterrupts, OnlyInterrupts-joins, OnlyInterrupts-none, OnlyInterrupts-one}
-pub use Rattle.requests.specs.Answers.{AnswersEach, AnswersWhole, AsksFew, AwaitsBody, AwaitsHead, CallsFor, Closes, Continues, EndedBeforeHead, ending_of, ends_of, EndsUntaken, FailsInRead, faults_of, IsClosed, IsLastTurn, IsMany, IsPartTaken, IsToBeRefused, KeepsRoom, MayFollow, NoMoreAnswered, only_line_ends, ReadsSome, ReadsSteadily, Refuses, RunEndsBy, RunsToLast, sending_of, sent_till, sent_with, stream_at, stream_in, TakeFails, TakesWhole}
+pub use Rattle.requests.specs.Answers.{AnswersEach, AnswersWhole, AsksFew, AwaitsBody, AwaitsHead, CallsFor, Closes, CameToBody, Continues, EndedBeforeHead, ending_of, ends_of, EndsUntaken, FailsInRead, FailsInRow, FailsOnce, faults_of, FewFailed, IsClosed, IsLastTurn, IsPartTaken, IsToBeRefused, KeepsRoom, MayFollow, NoMoreAnswered, NoneLeft, only_line_ends, OneReadFails, ReadsSome, ReadsSteadily, Refuses, RunEndsBy, RunsToLast, sending_of, sent_till, sent_with, stream_at, stream_in, TakeFails, TakesWhole}
 pub use Rattle.requests.specs.Large.{AwaitsMore, is_large, IsAwaited, max_payload, TurnsLarge}
 pub use Rattle.requests.specs.Sending.{AsksUnsettled, Both, IsHeld, IsStep, IsUnsettled, Prompt, SendsForRoom, SendsUnless, StepsAlong}
 pub use Rattle.requests.specs.Texts.{answered, called, early_refusal, is_called, is_known, refusal, refusal_of, waits}

@@ -1,6 +1,6 @@
 -- What reads of a run met.
-use Rattle.std.proofs.Common.{◌≡◌, ℕ, ◌+◌, ◌≤◌, true, false, List, [], ◌∷◌, ◌++◌, All, length, Option, None, Some, Result, Ok, Err, IfOk, IfErr, sym, ap, subst, inl, inr, ◌∙◌, refl, arith, append_assoc, append-nil, length-append}
-use Rattle.requests.proofs.Names.{All-append, All-nil, AskedWhere, AsksFew, BadHead, BadRequest, Begun, Begun-went, body_error, body_rules, BodyCoding, BodyPlace, Breaks, Closes, coding_of, ends_of, Enters, Error, FailsInRead, FailsToFinish, FaultAfterInterrupts, FaultAfterInterrupts-after, faults_of, FinishesBody, handed_of, Heads, heads, InBody, Inside, InsideGoes, Io, IsBodyReader, IsHead, IsMany, IsOpen, IsPartTaken, IsToBeRefused, LeadsOpen, left_of, Malformed, MayFollow, Message, MetEnd, MetEnd-once, NextAnswer, NextAnswers, NextPiece, NoEnd, NoFault, NoPayload, OnlyInterrupts, OnlyInterrupts-joins, OnlyInterrupts-none, OnlyInterrupts-one, PiecesWent-stream, Reader, ReaderState, ReadsAlong-stream, ReadsPayload, ReadsSome, ReadsSteadily, Side, std_read_rules, stream_in, StreamWent, StreamWent-joins, TakeFails, TellsWhy, TookWholeBody, Truncated, Unbuffered, unbuffered, Untaken, usual, WhyNone, Wrong}
+use Rattle.std.proofs.Common.{◌≡◌, ℕ, ◌+◌, ◌≤◌, true, false, List, [], ◌∷◌, ◌++◌, All, length, Option, None, Some, Result, Ok, Err, sym, ap, subst, inl, inr, ◌∙◌, refl, arith, append_assoc, append-nil, length-append}
+use Rattle.requests.proofs.Names.{All-append, All-nil, AskedWhere, AsksFew, BadHead, Begun, body_error, body_rules, BodyCoding, BodyPlace, Breaks, Buffered, Closes, CameToBody, coding_of, ends_of, Enters, Error, FailsInRead, FailsToFinish, FaultAfterInterrupts, FaultAfterInterrupts-after, faults_of, FewFailed, FinishesBody, handed_of, Heads, heads, InBody, Inside, InsideGoes, IsBodyReader, IsHead, IsOpen, IsPartTaken, LeadsOpen, left_of, Malformed, MayFollow, Message, MetEnd, MetEnd-once, nil_from_length, NextAnswer, NextAnswers, NextPiece, NoEnd, NoFault, NoPayload, one_ahead, OnlyInterrupts, OnlyInterrupts-joins, OnlyInterrupts-none, PiecesWent-stream, Reader, ReaderState, OneReadFails, ReadsAlong-stream, ReadsPayload, ReadsSteadily, Side, std_read_rules, stream_in, StreamWent, StdPolicy, StreamLog, StreamWent-joins, TellsWhy, TookWholeBody, Unbuffered, unbuffered, usual, WhyNone}
 use Rattle.body_reader.specs.BetweenLaws.{AsksWithRoom-open}
 use Rattle.body_reader.specs.BodyReaderLaws.{BodyWent-leads}
 use Rattle.body_reader.specs.Coding.{Agree, heeded}
@@ -9,8 +9,7 @@ use Rattle.body_reader.specs.declared.either.Side.TheVariants as side
 use Rattle.body_reader.specs.declared.error.BodyError.TheVariants as unread
 use Rattle.codec.specs.declared.NextError.TheVariants as why
 use Rattle.messages.specs.declared.error.BodyError.{BodyError}
-use Rattle.redux_buffer.specs.Faults.{interrupt_limit, IsInterrupt}
-use Rattle.requests.specs.declared.taking.Untaken.TheVariants.{Body, Large, Unsent, Many}
+use Rattle.requests.specs.declared.taking.Untaken.TheVariants.{Body}
 
 -- no fault was met, or one
 pub none_met : {a b : List Error} → b ≡ a → OnlyInterrupts a b
@@ -23,29 +22,42 @@ failed_behind a b c e reads faults = record {
   faults = faults ∙ ap (λ l. l ++ e ∷ []) reads.faults;
 }
 
+-- a stream gave no less than before
+grew : {S : Type 0} {s t : Unbuffered S} {Such : List ℕ → Type 0} → AskedWhere Such s t
+    → length s.log.reads.given ≤ length t.log.reads.given
+grew (inl same) = omega (arith, ap (λ l. length l.reads.given) same)
+grew {s = s} {t = t} (inr over) =
+    omega (arith, ap length over.given, length-append s.log.reads.given (over.came ++ t.log.reads.latest))
+
 -- each read that was made gave some
-pub steady_gave : {S : Type 0} {s t : Unbuffered S} → faults_of t ≡ faults_of s → ends_of t ≡ ends_of s
-    → t.log.reads.asks + length s.log.reads.given ≤ s.log.reads.asks + length t.log.reads.given → ReadsSteadily s t
-steady_gave faults ends gave = record {
+pub steady_gave : {S : Type 0} {s t : Unbuffered S} {Such : List ℕ → Type 0} → AskedWhere Such s t
+    → faults_of t ≡ faults_of s → ends_of t ≡ ends_of s
+    → t.log.reads.asks + length s.log.reads.given ≤ s.log.reads.asks + length t.log.reads.given → ReadsSteadily 0 s t
+steady_gave asked faults ends gave = record {
   faults = none_met faults;
   ends = ends;
-  asks = record { once = omega (arith, ends); told = omega (arith, gave, ends, ap length faults) };
+  asks = record {
+    once = omega (arith, ends);
+    told = omega (arith, gave, ends, ap length faults);
+    few = omega (arith, ap length faults, grew asked);
+  };
 }
 
-pub steady_same : {S : Type 0} (s t : Unbuffered S) → t.log ≡ s.log → ReadsSteadily s t
-steady_same s t same = steady_gave (ap (λ l. l.reads.faults) same) (ap (λ l. l.reads.zero_reads) same)
-    (omega (arith, ap (λ l. l.reads.asks) same, ap (λ l. length l.reads.given) same))
+pub steady_same : {S : Type 0} (s t : Unbuffered S) → t.log ≡ s.log → ReadsSteadily 0 s t
+steady_same s t same = steady_gave {Such = λ bytes. bytes ≡ []} (inl same) (ap (λ l. l.reads.faults) same)
+    (ap (λ l. l.reads.zero_reads) same) (omega (arith, ap (λ l. l.reads.asks) same, ap (λ l. length l.reads.given) same))
 
 -- a stream that was asked failed once, or met its end
 asked_few : {S : Type 0} {s t : Unbuffered S} {Such : List ℕ → Type 0} → AskedWhere Such s t
-    → length (faults_of t) + ends_of t ≡ length (faults_of s) + ends_of s + 1 → ends_of t ≤ ends_of s + 1 → AsksFew s t
-asked_few {s = s} {t = t} (inl same) one once = absurd (omega (
+    → length (faults_of t) + ends_of t ≡ length (faults_of s) + ends_of s + 1 → ends_of s ≤ ends_of t
+    → ends_of t ≤ ends_of s + 1 → AsksFew 1 s t
+asked_few {s = s} {t = t} (inl same) one more once = absurd (omega (
   arith,
   one,
   ap (λ l. length l.reads.faults) same,
   ap (λ l. l.reads.zero_reads) same,
 ))
-asked_few {s = s} {t = t} (inr over) one once = record {
+asked_few {s = s} {t = t} (inr over) one more once = record {
   once = once;
   told = omega (
     arith,
@@ -55,26 +67,31 @@ asked_few {s = s} {t = t} (inr over) one once = record {
     length-append s.log.reads.given (over.came ++ t.log.reads.latest),
     length-append over.came t.log.reads.latest,
   );
+  few = omega (arith, one, more, grew {s = s} {t = t} (inr over));
 }
+
+-- and often enough, where it failed less often than that
+pub AsksFew-upto : {S : Type 0} {s t : Unbuffered S} {few more : ℕ} → AsksFew few s t → few ≤ more → AsksFew more s t
+AsksFew-upto asks less = record { once = asks.once; told = asks.told; few = omega (arith, asks.few, less) }
 
 -- so few asks are those for one head
 pub next_few : {R : Type 0} {remaining : R → Option (List ℕ)} {s t : ReaderState R Heads}
     (answer : NextAnswer BadHead) → NextPiece remaining (heads usual) s answer t → s.ended ≡ false
-    → AsksFew (left_of s) (left_of t)
+    → AsksFew 1 (left_of s) (left_of t)
 next_few {s = s} {t = t} answer next told = few answer next.answers
   where
     asked : AskedWhere (IsOpen (heads usual)) (left_of s) (left_of t)
     asked = elim next.asked [ inl same ↦ inl same | inr over ↦ inr over.1 ]
 
-    gives : NoFault s t → NoEnd s t → AsksFew (left_of s) (left_of t)
-    gives faults ends = (steady_gave faults ends (next.gave ends faults)).asks
+    gives : NoFault s t → NoEnd s t → AsksFew 1 (left_of s) (left_of t)
+    gives faults ends = AsksFew-upto (steady_gave asked faults ends (next.gave ends faults)).asks (omega arith)
 
-    ends : NoFault s t → MetEnd s t → AsksFew (left_of s) (left_of t)
+    ends : NoFault s t → MetEnd s t → AsksFew 1 (left_of s) (left_of t)
     ends faults met =
         let end = MetEnd-once s t told met in
-        asked_few asked (omega (arith, end, ap length faults)) (omega (arith, end))
+        asked_few asked (omega (arith, end, ap length faults)) (omega (arith, end)) (omega (arith, end))
 
-    few : (answer : NextAnswer BadHead) → NextAnswers (heads usual) s answer next.bytes t → AsksFew (left_of s) (left_of t)
+    few : (answer : NextAnswer BadHead) → NextAnswers (heads usual) s answer next.bytes t → AsksFew 1 (left_of s) (left_of t)
     few (Ok (Some payload)) (faults, inl piece) = gives faults piece.2
     few (Ok (Some payload)) (faults, inr last) = absurd last.0
     few (Ok None) answers = ends answers.2 answers.4
@@ -82,6 +99,7 @@ next_few {s = s} {t = t} answer next told = few answer next.answers
     few (Err (why.Wrong e)) (none, faults, on, inr cut) = ends faults cut.3
     few (Err (why.Io e)) answers = asked_few asked
         (omega (arith, answers.4, ap length answers.2, length-append (faults_of (left_of s)) (e ∷ []))) (omega (arith, answers.4))
+        (omega (arith, answers.4))
 
 pub no_shorter : {a b : List Error} → OnlyInterrupts a b → length a ≤ length b
 no_shorter {a} {b} reads = omega (arith, ap length reads.faults, length-append a reads.interrupts)
@@ -101,57 +119,43 @@ pub Closes-one : {m : Message} → MayFollow false m → Closes (m ∷ [])
 Closes-one {m} close = record { before = []; last = m; all = refl; keep = All-nil (MayFollow true); close = close }
 
 -- what was met from here on was met since
-module _ {S : Type 0} {s m : Unbuffered S} (steady : ReadsSteadily s m) where
+module _ {S : Type 0} {s m : Unbuffered S} {before : ℕ} (steady : ReadsSteadily before s m) where
   pub joined : (t : Unbuffered S) → OnlyInterrupts (faults_of m) (faults_of t) → OnlyInterrupts (faults_of s) (faults_of t)
   joined t met = OnlyInterrupts-joins (faults_of s) (faults_of m) (faults_of t) steady.faults met
 
-  pub AsksFew-after : {t : Unbuffered S} → AsksFew m t → AsksFew s t
-  AsksFew-after few = record { once = omega (arith, few.once, steady.ends); told = omega (arith, few.told, steady.asks.told) }
-
-  pub steadily : {t : Unbuffered S} → ReadsSteadily m t → ReadsSteadily s t
-  steadily {t} more = record {
-    faults = joined t more.faults;
-    ends = more.ends ∙ steady.ends;
-    asks = AsksFew-after more.asks;
+  pub AsksFew-after : {t : Unbuffered S} {more all : ℕ} → AsksFew more m t → before + more ≤ all → AsksFew all s t
+  AsksFew-after few sum = record {
+    once = omega (arith, few.once, steady.ends);
+    told = omega (arith, few.told, steady.asks.told);
+    few = omega (arith, few.few, steady.asks.few, sum);
   }
 
-  pub FailsInRead-still : (e : Error) (t : Unbuffered S) → FailsInRead m e t → FailsInRead s e t
-  FailsInRead-still e t (fault, hard) =
-      (FaultAfterInterrupts-after (faults_of s) (faults_of m) (faults_of t) e steady.faults fault, hard)
-
-  pub IsMany-still : (more count : ℕ) (t : Unbuffered S) → OnlyInterrupts (faults_of m) (faults_of t) → IsMany count m t
-      → IsMany (more + count) s t
-  IsMany-still more count t met many = omega (arith, many, no_shorter steady.faults, no_shorter met)
-
-  pub TakeFails-after : (e : Untaken) (b : InBody S) → TakeFails m e b → TakeFails s e b
-  TakeFails-after (Body (Io e)) b (few, fails) = (AsksFew-after few, FailsInRead-still e (stream_in b) fails)
-  TakeFails-after (Body (Wrong why)) b (few, met, torn) = (
-    AsksFew-after few,
-    joined (stream_in b) met,
-    subst (λ n. IsToBeRefused n (Inside b) BadRequest) steady.ends torn,
-  )
-  TakeFails-after (Body (Truncated due)) b (few, met, torn) = (
-    AsksFew-after few,
-    joined (stream_in b) met,
-    subst (λ n. IsToBeRefused n (Inside b) BadRequest) steady.ends torn,
-  )
-  TakeFails-after Large b (reads, large) = (steadily reads, large)
-  TakeFails-after (Unsent e) b reads = steadily reads
-  TakeFails-after Many b (reads, many) =
-      (steadily reads, omega (arith, many, no_shorter steady.faults, no_shorter reads.faults))
-
-  pub fails_after : (answer : Result ℕ Untaken) (b : InBody S) → IfErr answer (λ e. TakeFails m e b)
-      → IfErr answer (λ e. TakeFails s e b)
-  fails_after (Ok n) b fails = tt
-  fails_after (Err e) b fails = TakeFails-after e b fails
-
-  pub reads_after : (answer : Result ℕ Untaken) (b : InBody S) → IfOk answer (λ n. ReadsSome m n b)
-      → IfOk answer (λ n. ReadsSome s n b)
-  reads_after (Ok n) b r = record {
-    steady = steadily r.steady;
-    more = elim r.more [ inl ended ↦ inl ended | inr some ↦ inr (omega (arith, some, no_shorter steady.faults)) ];
+  pub steady_on : {t : Unbuffered S} {more row : ℕ} → ReadsSteadily more m t → FewFailed row s t → ReadsSteadily row s t
+  steady_on {t} then few = record {
+    faults = joined t then.faults;
+    ends = then.ends ∙ steady.ends;
+    asks = record {
+      once = omega (arith, then.ends, steady.ends);
+      told = omega (arith, then.asks.told, steady.asks.told);
+      few = few;
+    };
   }
-  reads_after (Err e) b r = tt
+
+pub steadily : {S : Type 0} {s m t : Unbuffered S} → ReadsSteadily 0 s m → ReadsSteadily 0 m t → ReadsSteadily 0 s t
+steadily first then = steady_on first then (omega (arith, first.asks.few, then.asks.few))
+
+pub FailsInRead-still : {S : Type 0} {tells : S → StreamLog} {s m : Unbuffered S} → ReadsSteadily 0 s m → (e : Error)
+    → (t : Unbuffered S) → FailsInRead tells m e t → FailsInRead tells s e t
+FailsInRead-still {s = s} {m = m} steady e t (fault, hard) = (
+  FaultAfterInterrupts-after (faults_of s) (faults_of m) (faults_of t) e steady.faults fault,
+  λ is. let row = hard is in record {
+    begun = row.begun;
+    told = row.told;
+    first = omega (arith, row.first, no_shorter steady.faults);
+    none = row.none;
+    others = row.others;
+  },
+)
 
 -- calls in a body, as those of its stream
 pub inside_went : {S : Type 0} {remaining : S → Option (List ℕ)} {b t : InBody S} {handed : List ℕ}
@@ -191,14 +195,6 @@ module _ {S : Type 0} (m t : InBody S) (whole : IsBodyReader (body_rules m.body.
       ∙ ap (λ l. l ++ behind) (sym o.equal) ∙ append_assoc m.body.taken (bytes ++ over.came) behind
       ∙ ap (λ l. m.body.taken ++ l) (append_assoc bytes over.came behind)))
 
--- it failed for this reason
-was_fault : (place : Side ℕ BodyPlace) (why : WhyNone) (e : Error) → Io e ≡ body_error place why → why ≡ unread.Io e
-was_fault place (unread.Wrong (side.First none) right) e same = absurd (cc)
-was_fault place (unread.Wrong (side.Second name) right) e same = absurd (cc)
-was_fault (side.First due) (unread.Truncated right) e same = absurd (cc)
-was_fault (side.Second q) (unread.Truncated right) e same = absurd (cc)
-was_fault place (unread.Io fault) e same = cc
-
 -- what one read did, whatever it answered
 module _ {S : Type 0} (remaining : S → Option (List ℕ)) (s t : InBody S) (out : List ℕ) where
   abbrev pub Reads : Result ℕ BodyError → Type 0
@@ -215,72 +211,40 @@ module _ {S : Type 0} (remaining : S → Option (List ℕ)) (s t : InBody S) (ou
   -- and it asked few times
   none_few : (why : WhyNone) → NoPayload (body_rules s.body.coding) s.body why t.body
       → AskedWhere (LeadsOpen (body_rules s.body.coding) s.body.place []) (stream_in s) (stream_in t)
-      → AsksFew (stream_in s) (stream_in t)
-  none_few (unread.Wrong name right) fails asked = (steady_gave fails.1.faults fails.1.zero_reads fails.1.asks).asks
+      → AsksFew 1 (stream_in s) (stream_in t)
+  none_few (unread.Wrong name right) fails asked =
+      AsksFew-upto (steady_gave asked fails.1.faults fails.1.zero_reads fails.1.asks).asks (omega arith)
   none_few (unread.Truncated right) fails asked =
-      asked_few asked (omega (arith, fails.1.1, ap length fails.1.0)) (omega (arith, fails.1.1))
+      asked_few asked (omega (arith, fails.1.1, ap length fails.1.0)) (omega (arith, fails.1.1)) (omega (arith, fails.1.1))
   none_few (unread.Io e) fails asked = asked_few asked
       (omega (arith, fails.0.1, ap length fails.0.0, length-append (faults_of (stream_in s)) (e ∷ [])))
-      (omega (arith, fails.0.1))
+      (omega (arith, fails.0.1)) (omega (arith, fails.0.1))
 
-  -- why it failed is why the whole isn't taken
-  none_comes : (place : Side ℕ BodyPlace) (why : WhyNone)
-      → ((e : Error) → body_error place why ≡ Io e → IsInterrupt e → interrupt_limit ≤ length (faults_of (stream_in s)))
-      → AsksFew (stream_in s) (stream_in t)
-      → NoPayload (body_rules t.body.coding) s.body why t.body → TakeFails (stream_in s) (Body (body_error place why)) t
-  none_comes place (unread.Wrong (side.First none) right) hard few fails =
-      (few, none_met fails.1.faults, inl (refl, inl (side.First none, fails.2)))
-  none_comes place (unread.Wrong (side.Second name) right) hard few fails =
-      (few, none_met fails.1.faults, inl (refl, inl (side.Second name, fails.2)))
-  none_comes (side.First due) (unread.Truncated right) hard few fails =
-      (few, none_met fails.1.0, inl (refl, inr (omega (arith, fails.1.1), fails.2)))
-  none_comes (side.Second q) (unread.Truncated right) hard few fails =
-      (few, none_met fails.1.0, inl (refl, inr (omega (arith, fails.1.1), fails.2)))
-  none_comes place (unread.Io e) hard few fails = (
+  -- why it failed is why no more is read
+  none_comes : (place : Side ℕ BodyPlace) (why : WhyNone) → AsksFew 1 (stream_in s) (stream_in t)
+      → NoPayload (body_rules t.body.coding) s.body why t.body → OneReadFails (stream_in s) (Body (body_error place why)) t
+  none_comes place (unread.Wrong (side.First none) right) few fails =
+      (few, (none_met fails.1.faults, inl (refl, inl (side.First none, fails.2))))
+  none_comes place (unread.Wrong (side.Second name) right) few fails =
+      (few, (none_met fails.1.faults, inl (refl, inl (side.Second name, fails.2))))
+  none_comes (side.First due) (unread.Truncated right) few fails =
+      (few, (none_met fails.1.0, inl (refl, inr (omega (arith, fails.1.1), fails.2))))
+  none_comes (side.Second q) (unread.Truncated right) few fails =
+      (few, (none_met fails.1.0, inl (refl, inr (omega (arith, fails.1.1), fails.2))))
+  none_comes place (unread.Io e) few fails = (
     few,
-    (
-      failed_behind _ _ _ e (OnlyInterrupts-none (faults_of (stream_in s))) fails.0.0,
-      λ is. omega (arith, hard e refl is, ap length fails.0.0, length-append (faults_of (stream_in s)) (e ∷ [])),
-    ),
+    record {
+      fault = fails.0.0;
+      ends = fails.0.1;
+      none = nil_from_length (stream_in t).left (omega (arith, fails.1.settles_nothing.few, one_ahead t.body.coding));
+      goes_on = λ whole. fails.1.none t.body.taken (handed_of t.body) t.body.reader.block.bytes whole refl;
+    },
   )
 
-  pub read_fails : (e : BodyError) → Reads (Err e)
-      → ((fault : Error) → e ≡ Io fault → IsInterrupt fault → interrupt_limit ≤ length (faults_of (stream_in s)))
-      → TakeFails (stream_in s) (Body e) t
-  read_fails e (why, told, reads) hard = subst (λ x. TakeFails (stream_in s) (Body x) t) (sym told)
-      (none_comes t.body.place why (λ x is. hard x (told ∙ is))
-      (none_few why reads.answers (read_asked (Err e) (why, told, reads)))
+  pub read_fails : (e : BodyError) → Reads (Err e) → OneReadFails (stream_in s) (Body e) t
+  read_fails e (why, told, reads) = subst (λ x. OneReadFails (stream_in s) (Body x) t) (sym told)
+      (none_comes t.body.place why (none_few why reads.answers (read_asked (Err e) (why, told, reads)))
       (subst (λ c. NoPayload (body_rules c) s.body why t.body) (sym reads.went.coding) reads.answers))
-
-  -- no read fails twice
-  none_faults : (why : WhyNone) → NoPayload (body_rules s.body.coding) s.body why t.body
-      → length (faults_of (stream_in t)) ≤ length (faults_of (stream_in s)) + 1
-  none_faults (unread.Wrong name right) fails = omega (arith, ap length fails.1.faults)
-  none_faults (unread.Truncated right) fails = omega (arith, ap length fails.1.0)
-  none_faults (unread.Io e) fails = omega (arith, ap length fails.0.0, length-append (faults_of (stream_in s)) (e ∷ []))
-
-  pub read_faults : (e : BodyError) → Reads (Err e)
-      → length (faults_of (stream_in t)) ≤ length (faults_of (stream_in s)) + 1
-  read_faults e (why, told, reads) = none_faults why reads.answers
-
-  pub read_fault : (told : BodyError) (e : Error) → Reads (Err told) → told ≡ Io e
-      → NoPayload (body_rules s.body.coding) s.body (unread.Io e) t.body
-  read_fault told e (why, is, reads) same = subst (λ x. NoPayload (body_rules s.body.coding) s.body x t.body)
-      (was_fault t.body.place why e (sym same ∙ is)) reads.answers
-
-  -- it was interrupted
-  pub read_again : (told : BodyError) (e : Error) → Reads (Err told) → told ≡ Io e → IsInterrupt e
-      → ReadsSome (stream_in s) 0 t
-  read_again told e (why, is, reads) same interrupted =
-      let fault = read_fault told e (why, is, reads) same in
-      record {
-        steady = record {
-          faults = OnlyInterrupts-one (faults_of (stream_in s)) (faults_of (stream_in t)) e interrupted fault.0.0;
-          ends = fault.0.1;
-          asks = none_few why reads.answers (read_asked (Err told) (why, is, reads));
-        };
-        more = inr (omega (arith, ap length fault.0.0, length-append (faults_of (stream_in s)) (e ∷ [])));
-      }
 
 -- a call that goes into no message takes nothing
 pub nothing_went : {R : Type 0} {remaining : R → Option (List ℕ)} {s t : ReaderState R Heads} {answer : NextAnswer BadHead}
@@ -290,39 +254,44 @@ nothing_went {R} {remaining} {s} {t} next none =
     (PiecesWent-stream remaining (heads usual).most s t next.bytes next.went)
 
 -- the head of a message went without a fault, and no end was met
-module _ {R : Type 0} {remaining : R → Option (List ℕ)} {s : ReaderState R Heads} {b : InBody R}
-    (begun : Begun remaining s b) where
-  pub begun_steady : ReadsSteadily (left_of s) (stream_in b)
+module _ {R : Type 0} {remaining : R → Option (List ℕ)} {m : ReaderState R Heads} {b : InBody R}
+    (begun : Begun remaining m b) where
+  pub begun_steady : ReadsSteadily 0 (left_of m) (stream_in b)
   begun_steady =
       let next = begun.next in
-      let ends : NoEnd s begun.behind = elim next.answers.1 [ inl is ↦ is.2 | inr last ↦ absurd last.0 ] in
-      subst (ReadsSteadily (left_of s)) (sym begun.stream) (steady_gave next.answers.0 ends (next.gave ends next.answers.0))
+      let ends : NoEnd m begun.behind = elim next.answers.1 [ inl is ↦ is.2 | inr last ↦ absurd last.0 ] in
+      let asked : AskedWhere (IsOpen (heads m.decoder.0)) (left_of m) (left_of begun.behind) =
+      elim next.asked [ inl same ↦ inl same | inr over ↦ inr over.1 ] in
+      subst (ReadsSteadily 0 (left_of m)) (sym begun.stream)
+      (steady_gave asked next.answers.0 ends (next.gave ends next.answers.0))
 
   -- it is one under the usual limits
-  pub begun_enters : s.decoder.0 ≡ usual → Enters usual b
+  pub begun_enters : m.decoder.0 ≡ usual → Enters usual b
   begun_enters same = subst (λ l. Enters l b) same begun.enters
 
-  pub begun_usual : Enters usual b → s.decoder.0 ≡ usual
-  begun_usual enters = sym (ap (λ x. x.limits) begun.enters.is) ∙ ap (λ x. x.limits) enters.is
+-- a head that was come to is one under the usual limits
+module _ {R W : Type 0} {remaining : R → Option (List ℕ)} {tells : W → StreamLog} {trace : W → W → Type 0} {s : Unbuffered R}
+    {w v : Buffered W StdPolicy} {b : InBody R} (come : CameToBody remaining tells trace s w b v) where
+  pub begun_usual : come.last.decoder.0 ≡ usual
+  begun_usual = sym (ap (λ x. x.limits) come.begun.enters.is) ∙ ap (λ x. x.limits) come.enters.is
 
-  pub begun_head : Enters usual b → IsHead usual b.head b.said
-  begun_head enters = subst (λ l. IsHead l b.head b.said) (begun_usual enters) begun.is
+  pub begun_head : IsHead usual b.head b.said
+  begun_head = subst (λ l. IsHead l b.head b.said) begun_usual come.begun.is
 
-  -- a part of it was taken
+  -- a part of its message was taken
   pub part_went : {t : InBody R} {handed : List ℕ} (goes : InsideGoes remaining b handed t)
-      → StreamWent remaining (left_of s) (b.head ++ goes.went.wire) (stream_in t)
-  part_went {t} goes = StreamWent-joins remaining (left_of s) (stream_in b) (stream_in t) b.head goes.went.wire
-      (Begun-went remaining s b begun) (inside_went goes)
+      → StreamWent remaining s (b.head ++ goes.went.wire) (stream_in t)
+  part_went {t} goes =
+      StreamWent-joins remaining s (stream_in b) (stream_in t) b.head goes.went.wire come.went (inside_went goes)
 
-  pub is_part : {t : InBody R} {handed : List ℕ} → Enters usual b → (goes : InsideGoes remaining b handed t)
+  pub is_part : {t : InBody R} {handed : List ℕ} (goes : InsideGoes remaining b handed t)
       → IsPartTaken (Inside t) (b.head ++ goes.went.wire) (handed_of t.body)
-  is_part {t} enters goes = (
+  is_part {t} goes = (
     ap (λ l. l ++ goes.went.wire) (sym goes.head)
-        ∙ ap (λ l. t.head ++ l) (sym (goes.went.taken ∙ ap (λ x. x.body.taken ++ goes.went.wire) enters.is)),
+        ∙ ap (λ l. t.head ++ l) (sym (goes.went.taken ∙ ap (λ x. x.body.taken ++ goes.went.wire) come.enters.is)),
     refl,
-    subst (λ h. IsHead usual h t.said) (sym goes.head)
-        (subst (λ x. IsHead usual b.head x) (sym goes.said) (begun_head enters)),
-    goes.went.coding ∙ ap (λ x. x.body.coding) enters.is ∙ ap (λ x. coding_of usual x.extent) (sym goes.said),
+    subst (λ h. IsHead usual h t.said) (sym goes.head) (subst (λ x. IsHead usual b.head x) (sym goes.said) begun_head),
+    goes.went.coding ∙ ap (λ x. x.body.coding) come.enters.is ∙ ap (λ x. coding_of usual x.extent) (sym goes.said),
     goes.whole,
   )
 

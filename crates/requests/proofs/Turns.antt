@@ -1,19 +1,19 @@
 -- Turns, one after another: a message in each.
-use Rattle.std.proofs.Common.{◌≡◌, ◌+◌, true, ℕ, List, [], ◌∷◌, ◌++◌, length, Option, None, Some, IfSome, Ok, sym, ap, subst, inl, inr, ◌∙◌, arith, append_assoc, length-append, OnOk, Result}
-use Rattle.requests.proofs.Names.{All-append, AnswersEach, AnswersWhole, AwaitsBody, AwaitsHead, Before, Both, Buffered, CallsFor, Continues, Ending, Error, Inside, IsClosed, IsHeld, IsLastTurn, IsMany, IsToBeRefused, MayFollow, Message, NoMoreAnswered, Over, ParsedHead, Place, Prompt, Refusal, Refuses, RunEndsBy, RunsToLast, sending_of, StdPolicy, stream_at, StreamLog, StreamWent, StreamWent-joins, Unbuffered, Unread}
+use Rattle.std.proofs.Common.{true, ℕ, List, [], ◌∷◌, ◌++◌, Option, None, Some, IfSome, Ok, sym, ap, subst, inl, inr, ◌∙◌, arith, append_assoc, length-append, OnOk, Result}
+use Rattle.requests.proofs.Names.{All-append, AnswersEach, AnswersWhole, AwaitsBody, AwaitsHead, Before, Both, Buffered, CallsFor, Continues, Ending, Error, Inside, IsClosed, IsHeld, IsLastTurn, IsToBeRefused, MayFollow, Message, NoMoreAnswered, Over, ParsedHead, Place, Prompt, Refusal, Refuses, RunEndsBy, RunsToLast, sending_of, StdPolicy, stream_at, StreamLog, StreamWent, StreamWent-joins, Unbuffered, Unread}
 use Rattle.requests.specs.declared.Ending.TheVariants as stop
-use Rattle.requests.proofs.Reading.{AsksFew-after, Closes-after, FailsInRead-still, IsMany-still, joined}
+use Rattle.requests.proofs.Reading.{AsksFew-after, Closes-after, FailsInRead-still, joined}
 use Rattle.requests.proofs.Sending.{Prompt-held, Prompt-on, SendsForRoom-held, WritesParts-held}
 
 module _ {R W : Type 0} (remaining : R → Option (List ℕ)) (tells : W → StreamLog)
     (trace : W → W → Type 0) where
   -- where nothing went, the stream was asked for a head
-  comes_on : (a c b : Both R W) → StreamWent remaining a.0 [] c.0
+  pub comes_on : (a c b : Both R W) (sending : Result (Unit {0}) Error) → StreamWent remaining a.0 [] c.0
       → Prompt tells trace AwaitsHead a (Ok tt) c
-      → Prompt tells trace AwaitsHead c (Ok tt) b
-      → Prompt tells trace AwaitsHead a (Ok tt) b
-  comes_on a c b went =
-      Prompt-on AwaitsHead AwaitsHead a c b (Ok tt) went.order (λ front behind is. is)
+      → Prompt tells trace AwaitsHead c sending b
+      → Prompt tells trace AwaitsHead a sending b
+  comes_on a c b sending went =
+      Prompt-on AwaitsHead AwaitsHead a c b sending went.order (λ front behind is. is)
 
   AnswersWhole-behind : {m : Message} {a c b : Both R W} → AnswersEach remaining tells trace [] a c
       → AnswersWhole remaining tells trace m c (Ok tt) b → AnswersWhole remaining tells trace m a (Ok tt) b
@@ -28,7 +28,7 @@ module _ {R W : Type 0} (remaining : R → Option (List ℕ)) (tells : W → Str
     calls = record {
       went = StreamWent-joins remaining a.0 c.0 one.begun.0 [] m.0 went one.calls.went;
       before = one.calls.before;
-      comes = comes_on a c (one.begun.0, one.calls.before) went writes one.calls.comes;
+      comes = comes_on a c (one.begun.0, one.calls.before) (Ok tt) went writes one.calls.comes;
       call = one.calls.call;
     };
     before = one.before;
@@ -41,7 +41,7 @@ module _ {R W : Type 0} (remaining : R → Option (List ℕ)) (tells : W → Str
       → AnswersEach remaining tells trace ns c b → AnswersEach remaining tells trace (ms ++ ns) a b
   AnswersEach-joins [] [] a c b (went, writes) (more, then) = (
     StreamWent-joins remaining a.0 c.0 b.0 [] [] went more,
-    comes_on a c b went writes then,
+    comes_on a c b (Ok tt) went writes then,
   )
   AnswersEach-joins [] (n ∷ ns) a c b none (d, one, later) = (d, AnswersWhole-behind none one, later)
   AnswersEach-joins (m ∷ ms) ns a c b (d, one, later) more = (d, one, AnswersEach-joins ms ns d c b later more)
@@ -78,17 +78,18 @@ module _ {R W : Type 0} (remaining : R → Option (List ℕ)) (tells : W → Str
   turn_held (m ∷ []) taken place refuses a b sending turn held = message_held sending turn.0 held
   turn_held (m ∷ n ∷ later) taken place refuses a b sending turn held = absurd turn
 
-  pub RunsToLast-held : {s : Unbuffered R} {w w' : Buffered W StdPolicy} {place : Place R} (ending : Ending)
-      → RunsToLast remaining tells trace s w place ending w' → IsHeld w → OnOk (sending_of ending) (IsHeld w')
-  RunsToLast-held {s} {w} {w'} {place} ending runs held =
+  pub RunsToLast-held : {told : R → StreamLog} {s : Unbuffered R} {w w' : Buffered W StdPolicy} {place : Place R}
+      (ending : Ending) → RunsToLast remaining tells trace told s w place ending w'
+      → IsHeld w → OnOk (sending_of ending) (IsHeld w')
+  RunsToLast-held {told} {s} {w} {w'} {place} ending runs held =
       let turns = runs.turns in
       turn_held turns.last runs.taken place runs.refuses turns.between (stream_at place, w') (sending_of ending) turns.turn
       (AnswersEach-held turns.front (s, w) turns.between turns.each held)
 
   module _ {s m : Unbuffered R} {w v : Buffered W StdPolicy} (a : Continues remaining tells trace s w m v) where
-    pub RunsToLast-after : {place : Place R} {w' : Buffered W StdPolicy} (ending : Ending)
-        → RunsToLast remaining tells trace m v place ending w' → RunsToLast remaining tells trace s w place ending w'
-    RunsToLast-after {place} {w'} ending b = record {
+    pub RunsToLast-after : {told : R → StreamLog} {place : Place R} {w' : Buffered W StdPolicy} (ending : Ending)
+        → RunsToLast remaining tells trace told m v place ending w' → RunsToLast remaining tells trace told s w place ending w'
+    RunsToLast-after {told} {place} {w'} ending b = record {
       messages = a.messages ++ b.messages;
       taken = b.taken;
       handed = b.handed;
@@ -102,13 +103,13 @@ module _ {R W : Type 0} (remaining : R → Option (List ℕ)) (tells : W → Str
         each = AnswersEach-joins a.messages b.turns.front (s, w) (m, v) b.turns.between a.each b.turns.each;
         turn = b.turns.turn;
       };
-      asks = AsksFew-after a.reads b.asks;
+      asks = AsksFew-after a.reads b.asks (omega arith);
       wrong = subst (λ n. IfSome b.refuses (IsToBeRefused n place)) a.reads.ends b.wrong;
       ends = ends ending b.ends;
     }
       where
-        ends : (ending : Ending) → RunEndsBy remaining tells trace m b.messages b.taken b.handed b.refuses place ending
-            → RunEndsBy remaining tells trace s (a.messages ++ b.messages) b.taken b.handed b.refuses place ending
+        ends : (ending : Ending) → RunEndsBy remaining tells trace told m b.messages b.taken b.refuses place ending
+            → RunEndsBy remaining tells trace told s (a.messages ++ b.messages) b.taken b.refuses place ending
         ends Over (met, is) = (
           joined a.reads (stream_at place) met,
           elim (subst (λ n. NoMoreAnswered b.messages b.taken b.refuses n place) a.reads.ends is) [
@@ -120,10 +121,7 @@ module _ {R W : Type 0} (remaining : R → Option (List ℕ)) (tells : W → Str
           joined a.reads (stream_at place) met,
           All-append (MayFollow true) a.messages b.messages a.keep keep,
           not,
-          (let both : length a.messages + (length b.messages + length b.handed)
-              ≡ length (a.messages ++ b.messages) + length b.handed = omega (arith, length-append a.messages b.messages) in
-              subst (λ n. IsMany n s (stream_at place)) both
-              (IsMany-still a.reads (length a.messages) (length b.messages + length b.handed) (stream_at place) met many)),
+          omega (arith, many, length-append a.messages b.messages),
         )
         ends (Unread e) (fails, keep, not) = (
           FailsInRead-still a.reads e (stream_at place) fails,

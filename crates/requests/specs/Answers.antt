@@ -1,5 +1,5 @@
 -- What is answered to requests.
-use Rattle.std.specs.Prelude.{◌≡◌, ℕ, ◌+◌, ◌-◌, ◌^◌, ◌<◌, ◌≤◌, ◌⊎◌, ◌==◌, Bool, true, false, List, [], ◌∷◌, ◌++◌, All, length, Option, None, Some, Result, Ok, Err, MatchResult, IfErr, IfSome, IsErr, IsSome, IsTrue}
+use Rattle.std.specs.Prelude.{◌≡◌, ℕ, ◌+◌, ◌*◌, ◌^◌, ◌<◌, ◌≤◌, ◌⊎◌, ◌==◌, Bool, true, false, List, [], ◌∷◌, ◌++◌, All, length, Option, None, Some, Result, Ok, Err, MatchResult, IfErr, IfSome, IsErr, IsSome, IsTrue}
 use Rattle.std.specs.List.{prefix_len}
 use Rattle.std.specs.IoError.{error_kind}
 use Rattle.std.specs.declared.io.Error.{Error}
@@ -22,7 +22,7 @@ use Rattle.messages.specs.declared.head.ParsedHead.{ParsedHead}
 use Rattle.messages.specs.Heads.{IsHead, heads}
 use Rattle.messages.specs.declared.head.Heads.{Heads}
 use Rattle.messages.specs.Limits.{usual}
-use Rattle.messages.specs.Messages.{InBody, IsMessage, Message, Room, body_rules, coding_of, room_of}
+use Rattle.messages.specs.Messages.{Begun, BodyCoding, Enters, InBody, IsMessage, Message, Reader, Room, body_rules, coding_of, room_of}
 use Rattle.messages.specs.Versions.{is_end}
 use Rattle.programs.specs.Streams.{EndsOnce}
 use Rattle.requests.specs.declared.writing.Refusal.{Refusal}
@@ -33,7 +33,7 @@ use Rattle.requests.specs.declared.Ending.{Ending}
 use Rattle.requests.specs.declared.Ending.TheVariants as stop
 use Rattle.requests.specs.declared.Ending.TheVariants.{Over, Unread}
 use Rattle.requests.specs.declared.taking.Untaken.{Untaken}
-use Rattle.requests.specs.declared.taking.Untaken.TheVariants.{Body, Large, Unsent, Many}
+use Rattle.requests.specs.declared.taking.Untaken.TheVariants.{Body, Large, Unsent}
 use Rattle.requests.specs.Large.{IsAwaited, TurnsLarge, is_large, usual_rules}
 use Rattle.requests.specs.Sending.{Both, SendsForRoom, SendsHeld, Prompt}
 use Rattle.requests.specs.Texts.{answered, called, early_refusal, is_called, is_known, refusal, refusal_of}
@@ -60,17 +60,31 @@ ends_of s = s.log.reads.zero_reads
 abbrev pub faults_of : {S : Type 0} → Unbuffered S → List Error
 faults_of s = s.log.reads.faults
 
--- the end was met once at most, and each ask gave bytes, or failed, or met that
-pub record AsksFew {S : Type 0} (s t : Unbuffered S) : Type 0 where
+-- for each byte that came reads failed as often as the limit at most, and so many times more
+abbrev pub FewFailed : {S : Type 0} → ℕ → Unbuffered S → Unbuffered S → Type 0
+FewFailed more s t = length (faults_of t) + interrupt_limit * length s.log.reads.given
+    ≤ length (faults_of s) + interrupt_limit * length t.log.reads.given + more
+
+-- the end was met once at most, and each ask gave bytes, or failed, or met that; and they failed that often
+pub record AsksFew {S : Type 0} (more : ℕ) (s t : Unbuffered S) : Type 0 where
   pub once : EndsOnce s.log.reads t.log.reads
   pub told : t.log.reads.asks + (length s.log.reads.given + (length (faults_of s) + ends_of s))
       ≤ s.log.reads.asks + (length t.log.reads.given + (length (faults_of t) + ends_of t))
+  pub few : FewFailed more s t
 
--- reads were at most interrupted, and each other gave some bytes
-pub record ReadsSteadily {S : Type 0} (s t : Unbuffered S) : Type 0 where
+-- reads were at most interrupted, and each other gave some bytes, but for so many that no byte came behind
+pub record ReadsSteadily {S : Type 0} (row : ℕ) (s t : Unbuffered S) : Type 0 where
   pub faults : OnlyInterrupts (faults_of s) (faults_of t)
   pub ends : ends_of t ≡ ends_of s
-  pub asks : AsksFew s t
+  pub asks : AsksFew row s t
+
+-- so many reads failed in a row: behind the first of them, which left the stream so, no byte came
+pub record FailsInRow {S : Type 0} (tells : S → StreamLog) (row : ℕ) (s t : Unbuffered S) : Type 0 where
+  pub begun : Unbuffered S
+  pub told : begun.log ≡ tells begun.inner
+  pub first : length (faults_of s) < length (faults_of begun)
+  pub none : t.log.reads.given ≡ begun.log.reads.given
+  pub others : length (faults_of begun) + row ≤ length (faults_of t) + 1
 
 -- what it has left
 abbrev pub stream_at : {S : Type 0} → Place S → Unbuffered S
@@ -138,30 +152,49 @@ IsPartTaken (Inside body) taken handed = (taken ≡ body.head ++ body.body.taken
     × IsHead usual body.head body.said × (body.body.coding ≡ coding_of usual body.said.extent)
     × IsBodyReader (body_rules body.body.coding) body.body
 
--- behind interruptions a read failed so: it is one only where so many were met before
-abbrev pub FailsInRead : {S : Type 0} → Unbuffered S → Error → Unbuffered S → Type 0
-FailsInRead s e t =
-    FaultAfterInterrupts (faults_of s) (faults_of t) e × (IsInterrupt e → interrupt_limit < length (faults_of t))
+-- behind interruptions a read failed so: it is one only behind as many in a row as the limit
+abbrev pub FailsInRead : {S : Type 0} → (S → StreamLog) → Unbuffered S → Error → Unbuffered S → Type 0
+FailsInRead tells s e t =
+    FaultAfterInterrupts (faults_of s) (faults_of t) e × (IsInterrupt e → FailsInRow tells (interrupt_limit + 1) s t)
 
--- with the interruptions that were met, these are more than are counted
-abbrev pub IsMany : {S : Type 0} → ℕ → Unbuffered S → Unbuffered S → Type 0
-IsMany count s t = 2 ^ 64 ≤ count + (length (faults_of t) - length (faults_of s)) + 1
+-- these messages are more than are counted
+abbrev pub IsMany : List Message → Type 0
+IsMany messages = 2 ^ 64 ≤ length messages + 1
 
--- so much payload was read: some, or the body ended, or the read was interrupted
+-- so much payload was read, without a fault: some, or the body ended
 pub record ReadsSome {S : Type 0} (s : Unbuffered S) (n : ℕ) (b : InBody S) : Type 0 where
-  pub steady : ReadsSteadily s (stream_in b)
-  pub more : TookWholeBody (body_rules b.body.coding) b.body ⊎ (length (faults_of s) < n + length (faults_of (stream_in b)))
+  pub steady : ReadsSteadily 0 s (stream_in b)
+  pub same : faults_of (stream_in b) ≡ faults_of s
+  pub more : TookWholeBody (body_rules b.body.coding) b.body ⊎ (0 < n)
 
--- why a body isn't taken whole: a read failed, or it is wrong, or too large, or what is held wasn't sent, or it is more than is
--- counted
-abbrev pub TakeFails : {S : Type 0} → Unbuffered S → Untaken → InBody S → Type 0
-TakeFails s (Body (Io e)) b = AsksFew s (stream_in b) × FailsInRead s e (stream_in b)
-TakeFails s (Body wrong) b =
-    AsksFew s (stream_in b) × OnlyInterrupts (faults_of s) (faults_of (stream_in b))
-    × IsToBeRefused (ends_of s) (Inside b) BadRequest
-TakeFails s Large b = ReadsSteadily s (stream_in b) × TurnsLarge b
-TakeFails s (Unsent e) b = ReadsSteadily s (stream_in b)
-TakeFails s Many b = ReadsSteadily s (stream_in b) × IsMany (length (handed_of b.body)) s (stream_in b)
+-- no more is buffered that can be handed out
+abbrev pub NoneLeft : {S : Type 0} → BodyCoding → Reader S → ℕ → ℕ → Type 0
+NoneLeft c d count asked = (count ≡ asked) ⊎ (TookWholeBody (body_rules c) d ⊎ (EndsEarly (body_rules c) d
+    ⊎ ((why : Side (Unit {0}) Malformed) × Breaks (body_rules c) why d)))
+
+-- the last read failed so, in a body that goes on behind all that is buffered
+pub record FailsOnce {S : Type 0} (s : Unbuffered S) (e : Error) (b : InBody S) : Type 0 where
+  pub fault : faults_of (stream_in b) ≡ faults_of s ++ e ∷ []
+  pub ends : ends_of (stream_in b) ≡ ends_of s
+  pub none : (stream_in b).left ≡ []
+  pub goes_on : ¬ (TookWholeBody (body_rules b.body.coding) b.body)
+
+-- why a body isn't taken whole: a read failed, as this says; or it is wrong, or too large, or what is held wasn't sent
+abbrev pub WhyUntaken : {S : Type 0} → (Error → Type 0) → Unbuffered S → Untaken → InBody S → Type 0
+WhyUntaken Fails s (Body (Io e)) b = Fails e
+WhyUntaken Fails s (Body wrong) b =
+    OnlyInterrupts (faults_of s) (faults_of (stream_in b)) × IsToBeRefused (ends_of s) (Inside b) BadRequest
+WhyUntaken Fails s Large b = OnlyInterrupts (faults_of s) (faults_of (stream_in b)) × TurnsLarge b
+WhyUntaken Fails s (Unsent e) b = OnlyInterrupts (faults_of s) (faults_of (stream_in b))
+
+-- so by one read
+abbrev pub OneReadFails : {S : Type 0} → Unbuffered S → Untaken → InBody S → Type 0
+OneReadFails s why b = AsksFew 1 s (stream_in b) × WhyUntaken (λ e. FailsOnce s e b) s why b
+
+-- and by reads that are made again
+abbrev pub TakeFails : {S : Type 0} → (S → StreamLog) → Unbuffered S → Untaken → InBody S → Type 0
+TakeFails tells s why b =
+    AsksFew (interrupt_limit + 1) s (stream_in b) × WhyUntaken (λ e. FailsInRead tells s e (stream_in b)) s why b
 
 -- how sending went, where reading ended so
 abbrev pub sent_till : Untaken → Result (Unit {0}) Error
@@ -192,7 +225,6 @@ EndsUntaken tells trace w (Body wrong) ending w' = (answer : Result (Unit {0}) E
 EndsUntaken tells trace w Large ending w' = (answer : Result (Unit {0}) Error) × (ending ≡ ending_of answer)
     × WritesParts tells trace w (refusal LargeBody false) answer w'
 EndsUntaken tells trace w (Unsent e) ending w' = (ending ≡ stop.Unsent e) × (w' ≡ w)
-EndsUntaken tells trace w Many ending w' = (ending ≡ stop.Many) × (w' ≡ w)
 
 -- what is done at the end, and what is answered: what is held is sent, unless sending or reading failed
 abbrev pub EndsSent : {W : Type 0} → (W → StreamLog) → (W → W → Type 0) → Ending → Buffered W StdPolicy
@@ -220,6 +252,15 @@ module _ {R W : Type 0} (remaining : R → Option (List ℕ)) (tells : W → Str
     pub before : Buffered W StdPolicy
     pub comes : Prompt tells trace AwaitsHead a (Ok tt) (b.0, before)
     pub call : SendsForRoom tells trace before (called (is_called (is_known head) said)) putting b.1
+
+  -- a head went, and nothing was asked for once it was whole
+  pub record CameToBody (s : Unbuffered R) (w : Buffered W StdPolicy) (b : InBody R) (v : Buffered W StdPolicy) : Type 0 where
+    pub last : ReaderState R Heads
+    pub begun : Begun remaining last b
+    pub enters : Enters usual b
+    pub went : StreamWent remaining s b.head (stream_in b)
+    pub reads : ReadsSteadily 0 s (stream_in b)
+    pub comes : Prompt tells trace AwaitsHead (s, w) (Ok tt) (stream_in b, v)
 
   -- this message went, whose head settles no refusal of it; its body was called for, and then asked for till it was whole; and
   -- then it was answered, or that failed
@@ -277,46 +318,47 @@ module _ {R W : Type 0} (remaining : R → Option (List ℕ)) (tells : W → Str
     pub messages : List Message
     pub each : AnswersEach messages (s, w) (t, w')
     pub keep : All (MayFollow true) messages
-    pub reads : ReadsSteadily s t
+    pub reads : ReadsSteadily 0 s t
 
-  -- why a run ends: a read failed; or reads were at most interrupted, and it is over, or these are more than are counted, or
-  -- sending failed; and nothing was answered behind a message behind which none may follow
-  abbrev pub RunEndsBy : Unbuffered R → List Message → List ℕ → List ℕ → Option Refusal → Place R → Ending → Type 0
-  RunEndsBy s messages taken handed refuses place Over =
-      OnlyInterrupts (faults_of s) (faults_of (stream_at place)) × NoMoreAnswered messages taken refuses (ends_of s) place
-  RunEndsBy s messages taken handed refuses place stop.Many = OnlyInterrupts (faults_of s) (faults_of (stream_at place))
-      × All (MayFollow true) messages × (refuses ≡ None) × IsMany (length messages + length handed) s (stream_at place)
-  RunEndsBy s messages taken handed refuses place (Unread e) =
-      FailsInRead s e (stream_at place) × All (MayFollow true) messages × (refuses ≡ None)
-  RunEndsBy s messages taken handed refuses place (stop.Unsent e) = OnlyInterrupts (faults_of s) (faults_of (stream_at place))
-      × (All (MayFollow true) messages ⊎ IsClosed messages taken refuses (ends_of s) place)
+  module _ (told : R → StreamLog) where
+    -- why a run ends: a read failed; or reads were at most interrupted, and it is over, or these are more than are counted, or
+    -- sending failed; and nothing was answered behind a message behind which none may follow
+    abbrev pub RunEndsBy : Unbuffered R → List Message → List ℕ → Option Refusal → Place R → Ending → Type 0
+    RunEndsBy s messages taken refuses place Over =
+        OnlyInterrupts (faults_of s) (faults_of (stream_at place)) × NoMoreAnswered messages taken refuses (ends_of s) place
+    RunEndsBy s messages taken refuses place stop.Many = OnlyInterrupts (faults_of s) (faults_of (stream_at place))
+        × All (MayFollow true) messages × (refuses ≡ None) × IsMany messages
+    RunEndsBy s messages taken refuses place (Unread e) =
+        FailsInRead told s e (stream_at place) × All (MayFollow true) messages × (refuses ≡ None)
+    RunEndsBy s messages taken refuses place (stop.Unsent e) = OnlyInterrupts (faults_of s) (faults_of (stream_at place))
+        × (All (MayFollow true) messages ⊎ IsClosed messages taken refuses (ends_of s) place)
 
-  -- a run, but for what is sent last: behind the answers were written the call for a body that the client waits for, and a
-  -- refusal of what is wrong, by its status; so there is no 200 but for a whole message. The end is asked for once
-  pub record RunsToLast (s : Unbuffered R) (w : Buffered W StdPolicy) (place : Place R) (ending : Ending)
-      (w' : Buffered W StdPolicy) : Type 0 where
-    pub messages : List Message
-    pub taken : List ℕ
-    pub handed : List ℕ
-    pub part : IsPartTaken place taken handed
-    pub refuses : Option Refusal
-    pub turns : AnswersInTurns messages (s, w) taken place refuses (sending_of ending) (stream_at place, w')
-    pub asks : AsksFew s (stream_at place)
-    pub wrong : IfSome refuses (IsToBeRefused (ends_of s) place)
-    pub ends : RunEndsBy s messages taken handed refuses place ending
+    -- a run, but for what is sent last: behind the answers were written the call for a body that the client waits for, and a
+    -- refusal of what is wrong, by its status; so there is no 200 but for a whole message. The end is asked for once
+    pub record RunsToLast (s : Unbuffered R) (w : Buffered W StdPolicy) (place : Place R) (ending : Ending)
+        (w' : Buffered W StdPolicy) : Type 0 where
+      pub messages : List Message
+      pub taken : List ℕ
+      pub handed : List ℕ
+      pub part : IsPartTaken place taken handed
+      pub refuses : Option Refusal
+      pub turns : AnswersInTurns messages (s, w) taken place refuses (sending_of ending) (stream_at place, w')
+      pub asks : AsksFew (interrupt_limit + 1) s (stream_at place)
+      pub wrong : IfSome refuses (IsToBeRefused (ends_of s) place)
+      pub ends : RunEndsBy s messages taken refuses place ending
 
-  -- a run: where sending failed, it returns why, and behind the call that failed nothing was taken or asked for; or all was sent
-  pub record ServesRequests (s : Unbuffered R) (w : Buffered W StdPolicy) (place : Place R) (answer : Result (Unit {0}) Error)
-      (w' : Buffered W StdPolicy) : Type 0 where
-    pub ending : Ending
-    pub held : Buffered W StdPolicy
-    pub runs : RunsToLast s w place ending held
-    pub last : EndsSent tells trace ending held answer w'
+    -- a run: where sending failed, it returns why, and behind the call that failed nothing was taken or asked for; or all was
+    -- sent
+    pub record ServesRequests (s : Unbuffered R) (w : Buffered W StdPolicy) (place : Place R) (answer : Result (Unit {0}) Error)
+        (w' : Buffered W StdPolicy) : Type 0 where
+      pub ending : Ending
+      pub held : Buffered W StdPolicy
+      pub runs : RunsToLast s w place ending held
+      pub last : EndsSent tells trace ending held answer w'
 
-  -- one turn: a message went, or a read was interrupted; or the run ended
-  abbrev pub AnswersTurn : Unbuffered R → Buffered W StdPolicy → Result (ReaderState R Heads) (Place R × Ending)
-      → Buffered W StdPolicy → Type 0
-  AnswersTurn s w result w' = MatchResult result
-      (λ next. (goes : Continues s w (left_of next) w')
-      × (length (faults_of s) < length goes.messages + length (faults_of (left_of next))))
-      (λ e. RunsToLast s w e.0 e.1 w')
+    -- one turn: a message went; or the run ended
+    abbrev pub AnswersTurn : Unbuffered R → Buffered W StdPolicy → Result (ReaderState R Heads) (Place R × Ending)
+        → Buffered W StdPolicy → Type 0
+    AnswersTurn s w result w' = MatchResult result
+        (λ next. (goes : Continues s w (left_of next) w') × (0 < length goes.messages))
+        (λ e. RunsToLast s w e.0 e.1 w')

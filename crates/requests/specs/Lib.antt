@@ -1,5 +1,4 @@
 pub mod Answers
 pub mod Large
-pub mod Rows
 pub mod Sending
 pub mod Texts

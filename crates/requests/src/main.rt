@@ -16,23 +16,19 @@ mod rows;
 mod taking;
 mod writing;
 
-ghost use Rattle.std.specs.Prelude.{◌≡◌, ◌<◌, ◌≤◌, ℕ, true, false, [], IsTrue, IfOk, None, Ok, OnOk, length};
-ghost use Rattle.std.specs.declared.io.Error.{Error};
-ghost use Rattle.redux_buffer.specs.Faults.{IsInterrupt, interrupt_limit};
+ghost use Rattle.std.specs.Prelude.{◌≡◌, ◌≤◌, ℕ, true, IsTrue, IfOk, MatchResult, None, Ok, OnOk};
 ghost use Rattle.buffer_redux.specs.Buffered.{Buffered};
+ghost use Rattle.buffer_redux.specs.Unbuffer.{Unbuffered};
 ghost use Rattle.buffer_redux.specs.declared.policy.StdPolicy.{StdPolicy};
-ghost use Rattle.codec.specs.NextPiece.{NextPiece};
-ghost use Rattle.codec.specs.PieceReader.{IsSettled, ReaderState, left_of, rest};
-ghost use Rattle.messages.specs.declared.head.Heads.{Heads};
+ghost use Rattle.codec.specs.PieceReader.{IsSettled, left_of};
 ghost use Rattle.messages.specs.Heads.{heads};
 ghost use Rattle.messages.specs.Limits.{usual};
-ghost use Rattle.messages.specs.Messages.{Begun, Enters, room_of, stop_answer};
-ghost use Rattle.requests.specs.Sending.{IsHeld, Prompt, SendsUnless};
-ghost use Rattle.requests.specs.Answers.{AnswersTurn, AwaitsHead, CallsFor, EndsSent, EndsUntaken, KeepsRoom, ServesRequests, ending_of, only_line_ends, room_at, sending_of, stream_at, stream_in};
-ghost use Rattle.requests.specs.Rows.{IsRow, RowEnds, RowTurns};
+ghost use Rattle.messages.specs.Messages.{Enters, room_of};
+ghost use Rattle.requests.specs.Sending.{IsHeld, SendsUnless};
+ghost use Rattle.requests.specs.Answers.{AnswersTurn, CallsFor, CameToBody, EndsSent, EndsUntaken, FewFailed, KeepsRoom, RunsToLast, ServesRequests, ending_of, only_line_ends, room_at, sending_of, stream_at, stream_in};
 ghost use Rattle.requests.specs.Texts.{early_refusal, is_known};
 
-use crate::rows::{is_made_again, row_behind};
+use crate::rows::row_with;
 use crate::taking::{Untaken, take_whole};
 use crate::writing::{
     Refusal, answer_whole, call_for_body, early_refusal, is_known, refusal_of, refuse, send_held,
@@ -77,13 +73,12 @@ fn serve<R: TellRead, W: TellWrite>(
     requires room { 65536 ≤ writer.old.block.capacity }
     requires limits { requests.decoder.0 ≡ usual }
     ensures room { room_at result.0 ≡ room_of requests.reader.block }
-    ensures few { RowEnds (left_of requests) 0 (stream_at result.0) }
-    ensures serves { ServesRequests R.remaining W.log W.trace (left_of requests) writer.old result.0 result.1 writer.new }
+    ensures few { FewFailed 65 (left_of requests) (stream_at result.0) }
+    ensures serves { ServesRequests R.remaining W.log W.trace R.log (left_of requests) writer.old result.0 result.1 writer.new }
 {
     let mut next = requests;
-    let mut row = 0;
     for _message in 0..u64::MAX {
-        match answer(next, &mut row, writer) {
+        match answer(next, writer) {
             Ok(behind) => {
                 next = behind;
             }
@@ -129,49 +124,70 @@ fn send_last<W: TellWrite>(ending: Ending, writer: &mut BufWriter<W>) -> io::Res
 // Answers one request, and goes on to the next. An `Err` is the end: there is none, or none may follow.
 fn answer<R: TellRead, W: TellWrite>(
     requests: Requests<R>,
-    row: &mut u32,
     writer: &mut BufWriter<W>,
 ) -> Result<Requests<R>, (Place<R>, Ending)>
     requires held { IsHeld writer.old }
     requires limits { requests.decoder.0 ≡ usual }
-    requires row { IsRow (left_of requests) row.old }
-    ensures row { RowTurns (left_of requests) row.old result row.new }
-    ensures turns { AnswersTurn R.remaining W.log W.trace (left_of requests) writer.old result writer.new }
+    ensures turns { AnswersTurn R.remaining W.log W.trace R.log (left_of requests) writer.old result writer.new }
     ensures room { KeepsRoom (room_of requests.reader.block) result }
     ensures limits { IfOk result (λ next. next.decoder.0 ≡ usual) }
 {
     match requests.next_buffered() {
-        Ok(body) => answer_body(body, row, writer),
-        Err(requests) => answer_next(requests, row, writer),
+        Ok(body) => answer_body(body, writer),
+        Err(requests) => match come_to_next(requests, writer) {
+            Ok(body) => answer_body(body, writer),
+            Err((requests, ending)) => Err((Place::Before(requests), ending)),
+        },
     }
 }
 
-// Answers a request whose head isn't buffered whole.
-fn answer_next<R: TellRead, W: TellWrite>(
+// Goes on into a request whose head isn't buffered whole, or refuses what is none. Where the stream has to be asked, what is held
+// is sent first, and a read that was interrupted is made again, up to 64 times in a row, which begins anew where bytes came.
+fn come_to_next<R: TellRead, W: TellWrite>(
     requests: Requests<R>,
-    row: &mut u32,
     writer: &mut BufWriter<W>,
-) -> Result<Requests<R>, (Place<R>, Ending)>
+) -> Result<Body<R>, (Requests<R>, Ending)>
     requires held { IsHeld writer.old }
     requires limits { requests.decoder.0 ≡ usual }
-    requires row { IsRow (left_of requests) row.old }
-    ensures row { RowTurns (left_of requests) row.old result row.new }
-    ensures turns { AnswersTurn R.remaining W.log W.trace (left_of requests) writer.old result writer.new }
-    ensures room { KeepsRoom (room_of requests.reader.block) result }
-    ensures limits { IfOk result (λ next. next.decoder.0 ≡ usual) }
+    ensures comes { MatchResult result
+        (λ body. CameToBody R.remaining W.log W.trace (left_of requests) writer.old body writer.new)
+        (λ e. RunsToLast R.remaining W.log W.trace R.log (left_of requests) writer.old (Place.Before e.0) e.1 writer.new) }
+    ensures room { MatchResult result (λ body. room_of body.body.reader.block ≡ room_of requests.reader.block)
+        (λ e. room_of e.0.reader.block ≡ room_of requests.reader.block) }
 {
-    match send_to_ask(&requests, writer) {
-        Ok(()) => {
-            let had = requests.buffered().len() as u64;
-            match requests.next() {
-                Ok(body) => {
-                    *row = row_behind(*row, had, body.head().len() as u64);
-                    answer_body(body, row, writer)
+    let mut next = requests;
+    let mut row = 0;
+    'asks: loop {
+        match send_to_ask(&next, writer) {
+            Ok(()) => {
+                let had = next.buffered().len() as u64;
+                match next.next() {
+                    Ok(body) => return Ok(body),
+                    Err((back, stop)) => match stop {
+                        Stop::Ended => return Err((back, Ending::Over)),
+                        Stop::Bad(why) => {
+                            if is_blank_end(why, back.buffered()) {
+                                return Err((back, Ending::Over));
+                            }
+                            let ending = ending_of(refuse(refusal_of(why), false, writer));
+                            return Err((back, ending));
+                        }
+                        Stop::Io(e) => {
+                            // Says that what is seen is what the stream tells.
+                            let _ = back.get_ref();
+                            match row_with(&e, row, had, back.buffered().len() as u64) {
+                                Some(with) => {
+                                    row = with;
+                                    next = back;
+                                }
+                                None => return Err((back, Ending::Unread(e))),
+                            }
+                        }
+                    },
                 }
-                Err((requests, stop)) => stopped(requests, stop, had, row, writer),
             }
+            Err(e) => return Err((next, Ending::Unsent(e))),
         }
-        Err(e) => Err((Place::Before(requests), Ending::Unsent(e))),
     }
 }
 
@@ -190,51 +206,13 @@ fn send_to_ask<R: TellRead, W: TellWrite>(
     send_held(writer)
 }
 
-// Refuses what is no request. A read that was interrupted is made again, where that is no more often in a row than the limit.
-fn stopped<R: TellRead, W: TellWrite>(
-    requests: Requests<R>,
-    stop: Stop,
-    had: u64,
-    row: &mut u32,
-    writer: &mut BufWriter<W>,
-) -> Result<Requests<R>, (Place<R>, Ending)>
-    requires limits { requests.decoder.0 ≡ usual }
-    ensures limits { IfOk result (λ next. next.decoder.0 ≡ usual) }
-    ensures room { KeepsRoom (room_of requests.reader.block) result }
-    ensures row { (s : ReaderState R Heads) → IsRow (left_of s) row.old → had ≡ length (rest s)
-        → NextPiece R.remaining (heads usual) s (stop_answer stop) requests → RowTurns (left_of s) row.old result row.new }
-    ensures turns { (s : ReaderState R Heads) (w : Buffered W StdPolicy) → s.ended ≡ false → IsRow (left_of s) row.old
-        → NextPiece R.remaining (heads usual) s (stop_answer stop) requests
-        → Prompt W.log W.trace AwaitsHead (left_of s, w) (Ok tt) (left_of requests, writer.old)
-        → AnswersTurn R.remaining W.log W.trace (left_of s) w result writer.new }
-{
-    let before = row_behind(*row, had, requests.buffered().len() as u64);
-    if is_interrupt(&stop, before) {
-        *row = before + 1;
-        return Ok(requests);
-    }
-    if is_blank_end(&stop, requests.buffered()) {
-        return Err((Place::Before(requests), Ending::Over));
-    }
-    match stop {
-        Stop::Ended => Err((Place::Before(requests), Ending::Over)),
-        Stop::Bad(why) => {
-            let ending = ending_of(refuse(refusal_of(why), false, writer));
-            Err((Place::Before(requests), ending))
-        }
-        Stop::Io(e) => Err((Place::Before(requests), Ending::Unread(e))),
-    }
-}
-
 // Whether the stream ended behind empty lines, which say nothing.
-fn is_blank_end(stop: &Stop, left: &[u8]) -> bool
-    ensures yes { result ≡ true → (have : ℕ) × (stop.now ≡ Stop.Bad (BadHead.CutShort have))
-        × IsTrue (only_line_ends left.now) }
-    ensures cut { (have : ℕ) → stop.now ≡ Stop.Bad (BadHead.CutShort have)
-        → result ≡ only_line_ends left.now }
+fn is_blank_end(why: BadHead, left: &[u8]) -> bool
+    ensures yes { result ≡ true → (have : ℕ) × (why ≡ BadHead.CutShort have) × IsTrue (only_line_ends left.now) }
+    ensures cut { (have : ℕ) → why ≡ BadHead.CutShort have → result ≡ only_line_ends left.now }
 {
-    match stop {
-        Stop::Bad(BadHead::CutShort(_)) => blank_len(left) == left.len(),
+    match why {
+        BadHead::CutShort(_) => blank_len(left) == left.len(),
         _ => false,
     }
 }
@@ -248,30 +226,17 @@ fn ending_of(sending: io::Result<()>) -> Ending
     }
 }
 
-fn is_interrupt(stop: &Stop, row: u32) -> bool
-    ensures yes { result ≡ true → (e : Error) × (stop.now ≡ Stop.Io e) × IsInterrupt e × (row < interrupt_limit) }
-    ensures no { (e : Error) → stop.now ≡ Stop.Io e → IsInterrupt e → row < interrupt_limit → result ≡ true }
-{
-    match stop {
-        Stop::Io(e) => is_made_again(e, row),
-        _ => false,
-    }
-}
-
 fn answer_body<R: TellRead, W: TellWrite>(
     body: Body<R>,
-    row: &mut u32,
     writer: &mut BufWriter<W>,
 ) -> Result<Requests<R>, (Place<R>, Ending)>
     requires held { IsHeld writer.old }
     requires enters { Enters usual body }
-    requires row { IsRow (stream_in body) row.old }
-    ensures row { RowTurns (stream_in body) row.old result row.new }
     ensures limits { IfOk result (λ next. next.decoder.0 ≡ usual) }
     ensures room { KeepsRoom (room_of body.body.reader.block) result }
-    ensures turns { (s : ReaderState R Heads) (w : Buffered W StdPolicy) → Begun R.remaining s body
-        → Prompt W.log W.trace AwaitsHead (left_of s, w) (Ok tt) (stream_in body, writer.old)
-        → AnswersTurn R.remaining W.log W.trace (left_of s) w result writer.new }
+    ensures turns { (s : Unbuffered R) (w : Buffered W StdPolicy)
+        → CameToBody R.remaining W.log W.trace s w body writer.old
+        → AnswersTurn R.remaining W.log W.trace R.log s w result writer.new }
 {
     let said = body.said();
     let known = is_known(body.head());
@@ -281,7 +246,7 @@ fn answer_body<R: TellRead, W: TellWrite>(
             Err((Place::Inside(body), ending))
         }
         None => match call_for_body(known, said, writer) {
-            Ok(()) => answer_called(body, row, writer),
+            Ok(()) => answer_called(body, writer),
             Err(e) => Err((Place::Inside(body), Ending::Unsent(e))),
         },
     }
@@ -290,23 +255,20 @@ fn answer_body<R: TellRead, W: TellWrite>(
 // The same, where the body was called for. It goes on only where another request may follow.
 fn answer_called<R: TellRead, W: TellWrite>(
     body: Body<R>,
-    row: &mut u32,
     writer: &mut BufWriter<W>,
 ) -> Result<Requests<R>, (Place<R>, Ending)>
     requires held { IsHeld writer.old }
     requires enters { Enters usual body }
     requires open { early_refusal (is_known body.head) body.said ≡ None }
-    requires row { IsRow (stream_in body) row.old }
-    ensures row { RowTurns (stream_in body) row.old result row.new }
     ensures limits { IfOk result (λ next. next.decoder.0 ≡ usual) }
     ensures room { KeepsRoom (room_of body.body.reader.block) result }
-    ensures turns { (s : ReaderState R Heads) (w : Buffered W StdPolicy) → Begun R.remaining s body
-        → CallsFor R.remaining W.log W.trace body.head body.said (left_of s, w) (Ok tt) (stream_in body, writer.old)
-        → AnswersTurn R.remaining W.log W.trace (left_of s) w result writer.new }
+    ensures turns { (s : Unbuffered R) (w v : Buffered W StdPolicy) → CameToBody R.remaining W.log W.trace s w body v
+        → CallsFor R.remaining W.log W.trace body.head body.said (s, w) (Ok tt) (stream_in body, writer.old)
+        → AnswersTurn R.remaining W.log W.trace R.log s w result writer.new }
 {
     let said = body.said();
     let known = is_known(body.head());
-    match take_whole(body, row, writer) {
+    match take_whole(body, writer) {
         Ok((len, requests)) => match answer_whole(known, len, said, writer) {
             Ok(()) => {
                 if said.keeps {
@@ -333,6 +295,5 @@ fn unended<W: TellWrite>(e: Untaken, writer: &mut BufWriter<W>) -> Ending
         Untaken::Body(_) => ending_of(refuse(Refusal::BadRequest, false, writer)),
         Untaken::Large => ending_of(refuse(Refusal::LargeBody, false, writer)),
         Untaken::Unsent(e) => Ending::Unsent(e),
-        Untaken::Many => Ending::Many,
     }
 }

@@ -1,19 +1,22 @@
 //! Bodies are taken whole, and their payload counted.
-ghost use Rattle.std.specs.Prelude.{◌≡◌, ℕ, ◌<◌, ◌≤◌, false, List, [], length, take, IfErr, IfOk, MatchResult, Ok, OnOk};
+ghost use Rattle.std.specs.Prelude.{◌≡◌, ℕ, ◌+◌, ◌<◌, ◌≤◌, ◌⊎◌, false, List, [], length, take, Err, IfErr, IfOk, MatchResult, Ok, OnOk};
+ghost use Rattle.std.specs.declared.io.Error.{Error};
 ghost use Rattle.buffer_redux.specs.Asking.{AskedWhere};
 ghost use Rattle.body_reader.specs.Between.{handed_out};
 ghost use Rattle.body_reader.specs.BodyReader.{IsBodyReader, TookWholeBody, handed_of};
 ghost use Rattle.body_reader.specs.Coding.{LeadsOpen};
+ghost use Rattle.codec.specs.AskedAgain.{InARow};
 ghost use Rattle.codec.specs.PieceReader.{left_of};
+ghost use Rattle.messages.specs.declared.error.BodyError.TheVariants.{Io};
 ghost use Rattle.messages.specs.Limits.{usual};
 ghost use Rattle.messages.specs.Messages.{Enters, InsideGoes, body_rules, room_of};
-ghost use Rattle.requests.specs.Answers.{ReadsSome, ReadsSteadily, TakeFails, TakesWhole, sent_till, sent_with, stream_in};
+ghost use Rattle.redux_buffer.specs.Faults.{IsInterrupt, interrupt_limit};
+ghost use Rattle.requests.specs.Answers.{NoneLeft, OneReadFails, ReadsSome, ReadsSteadily, TakeFails, TakesWhole, sent_till, sent_with, stream_in};
 ghost use Rattle.requests.specs.Large.{AwaitsMore, IsAwaited, is_large};
-ghost use Rattle.requests.specs.Rows.{IsRow, RowEnds, RowOn, RowReads};
 ghost use Rattle.requests.specs.Sending.{IsHeld, Prompt, SendsUnless};
 
 use crate::limits::is_large;
-use crate::rows::{is_made_again, row_behind};
+use crate::rows::row_with;
 use crate::writing::send_held;
 use buffer_redux::BufWriter;
 use buffer_redux::tell::{TellRead, TellWrite};
@@ -29,27 +32,21 @@ pub enum Untaken {
     Large,
     // What was held couldn't be sent before the stream was asked.
     Unsent(io::Error),
-    // It was read more often than is counted.
-    Many,
 }
 
-// Takes the whole body, and counts its payload. So many reads in a row were interrupted before.
+// Takes the whole body, and counts its payload.
 pub fn take_whole<R: TellRead, W: TellWrite>(
     body: Body<R>,
-    row: &mut u32,
     writer: &mut BufWriter<W>,
 ) -> Result<(u64, Requests<R>), (Body<R>, Untaken)>
     requires held { IsHeld writer.old }
     requires enters { Enters usual body }
-    requires row { IsRow (stream_in body) row.old }
-    ensures row { MatchResult result (λ r. RowOn (stream_in body) row.old (left_of r.1) row.new)
-        (λ e. RowEnds (stream_in body) row.old (stream_in e.0)) }
     ensures limits { IfOk result (λ r. r.1.decoder.0 ≡ usual) }
     ensures whole { IfOk result (λ r. TakesWhole R.remaining body (left_of r.1) r.0) }
-    ensures steady { IfOk result (λ r. ReadsSteadily (stream_in body) (left_of r.1)) }
+    ensures steady { IfOk result (λ r. ReadsSteadily 0 (stream_in body) (left_of r.1)) }
     ensures room { IfOk result (λ r. room_of r.1.reader.block ≡ room_of body.body.reader.block) }
     ensures part { IfErr result (λ e. (handed : List ℕ) × InsideGoes R.remaining body handed e.0
-        × TakeFails (stream_in body) e.1 e.0) }
+        × TakeFails R.log (stream_in body) e.1 e.0) }
     ensures writes { MatchResult result
         (λ r. Prompt W.log W.trace (IsAwaited body.said.extent) (stream_in body, writer.old) (Ok tt)
         (left_of r.1, writer.new))
@@ -57,7 +54,7 @@ pub fn take_whole<R: TellRead, W: TellWrite>(
         (stream_in e.0, writer.new)) }
 {
     let mut body = body;
-    match payload_len(&mut body, row, writer) {
+    match payload_len(&mut body, writer) {
         Ok(len) => match body.finish() {
             Ok(requests) => Ok((len, requests)),
             // Nothing is asked for at the end of a body.
@@ -68,67 +65,92 @@ pub fn take_whole<R: TellRead, W: TellWrite>(
 }
 
 // How many bytes of payload the body has, of which all is read, unless it is too large. A read that was interrupted is made
-// again, 64 times in a row; any other failure is returned, so no answer counts a part of a body.
+// again, up to 64 times in a row, which begins anew where bytes came; any other failure is returned, so no answer counts a part
+// of a body.
 fn payload_len<R: TellRead, W: TellWrite>(
     body: &mut Body<R>,
-    row: &mut u32,
     writer: &mut BufWriter<W>,
 ) -> Result<u64, Untaken>
     requires held { IsHeld writer.old }
     requires enters { Enters usual body.old }
-    requires row { IsRow (stream_in body.old) row.old }
-    ensures row { RowReads (stream_in body.old) row.old result (stream_in body.new) row.new }
     ensures goes { (payload : List ℕ) × InsideGoes R.remaining body.old payload body.new }
     ensures many { IfOk result (λ len. len ≡ length (handed_of body.new.body)) }
-    ensures fails { IfErr result (λ e. TakeFails (stream_in body.old) e body.new) }
+    ensures fails { IfErr result (λ e. TakeFails R.log (stream_in body.old) e body.new) }
     ensures ended { OnOk result (TookWholeBody (body_rules body.new.body.coding) body.new.body) }
     ensures small { IfOk result (λ len. is_large body.new.said.extent (length body.new.body.taken) len ≡ false) }
-    ensures steady { OnOk result (ReadsSteadily (stream_in body.old) (stream_in body.new)) }
+    ensures steady { OnOk result (ReadsSteadily 0 (stream_in body.old) (stream_in body.new)) }
     ensures writes { Prompt W.log W.trace (IsAwaited body.old.said.extent) (stream_in body.old, writer.old)
         (sent_with result) (stream_in body.new, writer.new) }
 {
     let extent = body.said().extent;
     let mut out = [0; 4096];
     let mut len = 0u64;
-    if is_large(extent, body.taken(), len) {
-        return Err(Untaken::Large);
-    }
-    for _read in 0..u64::MAX {
-        match read_on(body, &mut out, row, writer) {
-            Ok(count) => len += count as u64,
-            Err(e) => return Err(e),
-        }
+    let mut row = 0;
+    'reads: loop {
         if is_large(extent, body.taken(), len) {
             return Err(Untaken::Large);
         }
         if body.is_done() {
             return Ok(len);
         }
+        let had = body.taken();
+        let answer = read_on(body, &mut out, writer);
+        // Says that what is seen is what the stream tells.
+        let _ = body.get_ref();
+        match unless_again(answer, row, had, body.taken()) {
+            Ok((count, with)) => {
+                len += count as u64;
+                row = with;
+            }
+            Err(e) => return Err(e),
+        }
     }
-    Err(Untaken::Many)
 }
 
-// Reads some payload, none where that is interrupted. Where it isn't buffered, what is held is sent before the stream is asked.
+// How much payload a read handed out, and how many reads in a row were interrupted with it: none was, or one that is made again.
+fn unless_again(
+    answer: Result<usize, Untaken>,
+    row: u32,
+    had: u64,
+    has: u64,
+) -> Result<(usize, u32), Untaken>
+    requires { row ≤ interrupt_limit }
+    ensures goes_on { IfOk result (λ r. ((answer ≡ Ok r.0) × (r.1 ≡ 0)) ⊎ ((r.0 ≡ 0) × (r.1 ≤ interrupt_limit)
+        × InARow row had has r.1 × (e : Error) × (answer ≡ Err (Untaken.Body (Io e))) × IsInterrupt e)) }
+    ensures ends { IfErr result (λ e. (answer ≡ Err e) × ((fault : Error) → e ≡ Untaken.Body (Io fault)
+        → IsInterrupt fault → InARow row had has (interrupt_limit + 1))) }
+{
+    match answer {
+        Ok(count) => Ok((count, 0)),
+        Err(Untaken::Body(BodyError::Io(e))) => match row_with(&e, row, had, has) {
+            Some(with) => Ok((0, with)),
+            None => Err(Untaken::Body(BodyError::Io(e))),
+        },
+        Err(e) => Err(e),
+    }
+}
+
+// Reads some payload of a body that goes on. Where it isn't buffered, what is held is sent before the stream is asked.
 fn read_on<R: TellRead, W: TellWrite>(
     body: &mut Body<R>,
     out: &mut [u8],
-    row: &mut u32,
     writer: &mut BufWriter<W>,
 ) -> Result<usize, Untaken>
     requires room { 4096 ≤ length out.old }
     requires held { IsHeld writer.old }
     requires whole { IsBodyReader (body_rules body.old.body.coding) body.old.body }
-    requires row { IsRow (stream_in body.old) row.old }
-    ensures row { RowReads (stream_in body.old) row.old result (stream_in body.new) row.new }
     ensures bound { IfOk result (λ n. n ≤ length out.new) }
     ensures noted { IfOk result (λ n. 0 < n → body.new.body.calls.reads.latest ≡ take n out.new) }
     ensures goes { InsideGoes R.remaining body.old (handed_out out.new result) body.new }
     ensures reads { IfOk result (λ n. ReadsSome (stream_in body.old) n body.new) }
-    ensures fails { IfErr result (λ e. TakeFails (stream_in body.old) e body.new) }
+    ensures fails { IfErr result (λ e. OneReadFails (stream_in body.old) e body.new) }
+    ensures asks { OnOk result ((stream_in body.old).left ≡ []
+        → ¬ (TookWholeBody (body_rules body.old.body.coding) body.old.body)
+        → (stream_in body.old).log.reads.asks < (stream_in body.new).log.reads.asks) }
     ensures writes { Prompt W.log W.trace (AwaitsMore body.old) (stream_in body.old, writer.old) (sent_with result)
         (stream_in body.new, writer.new) }
 {
-    let count = body.read_buffered(out);
+    let count = read_shown(body, out);
     if count > 0 {
         return Ok(count);
     }
@@ -136,42 +158,44 @@ fn read_on<R: TellRead, W: TellWrite>(
         return Ok(0);
     }
     match send_unless_shown(body, writer) {
-        Ok(()) => read(body, out, row),
+        Ok(()) => read(body, out),
         Err(e) => Err(Untaken::Unsent(e)),
     }
 }
 
-// Reads some payload, none where that is interrupted, and may be made again.
-fn read<R: TellRead>(body: &mut Body<R>, out: &mut [u8], row: &mut u32) -> Result<usize, Untaken>
+// Reads payload that is buffered.
+fn read_shown<R: TellRead>(body: &mut Body<R>, out: &mut [u8]) -> usize
+    requires whole { IsBodyReader (body_rules body.old.body.coding) body.old.body }
+    ensures bound { result ≤ length out.new }
+    ensures noted { 0 < result → body.new.body.calls.reads.latest ≡ take result out.new }
+    ensures goes { InsideGoes R.remaining body.old (take result out.new) body.new }
+    ensures unasked { (stream_in body.new).log ≡ (stream_in body.old).log }
+    ensures idle { (stream_in body.old).left ≡ [] → (result ≡ 0) × (body.new ≡ body.old) }
+    ensures all { 0 < length (stream_in body.new).left
+        → NoneLeft body.new.body.coding body.new.body result (length out.new) }
+{
+    if body.buffered().is_empty() {
+        return 0;
+    }
+    body.read_buffered(out)
+}
+
+// Reads some payload.
+fn read<R: TellRead>(body: &mut Body<R>, out: &mut [u8]) -> Result<usize, Untaken>
     requires some { 0 < length out.old }
-    requires row { IsRow (stream_in body.old) row.old }
-    ensures row { RowReads (stream_in body.old) row.old result (stream_in body.new) row.new }
     ensures bound { IfOk result (λ n. n ≤ length out.new) }
     ensures noted { IfOk result (λ n. 0 < n → body.new.body.calls.reads.latest ≡ take n out.new) }
     ensures goes { InsideGoes R.remaining body.old (handed_out out.new result) body.new }
     ensures reads { IfOk result (λ n. ReadsSome (stream_in body.old) n body.new) }
-    ensures fails { IfErr result (λ e. TakeFails (stream_in body.old) e body.new) }
+    ensures fails { IfErr result (λ e. OneReadFails (stream_in body.old) e body.new) }
     ensures sent { sent_with result ≡ Ok tt }
     ensures asked { AskedWhere (LeadsOpen (body_rules body.old.body.coding) body.old.body.place []) (stream_in body.old)
         (stream_in body.new) }
     ensures asks { (stream_in body.old).left ≡ [] → ¬ (TookWholeBody (body_rules body.old.body.coding) body.old.body)
         → (stream_in body.old).log.reads.asks < (stream_in body.new).log.reads.asks }
 {
-    let had = body.taken().saturating_add(body.buffered().len() as u64);
     match body.read(out) {
-        Ok(count) => {
-            *row = row_behind(*row, had, body.taken());
-            Ok(count)
-        }
-        Err(BodyError::Io(e)) => {
-            let before = row_behind(*row, had, body.taken());
-            if is_made_again(&e, before) {
-                *row = before + 1;
-                Ok(0)
-            } else {
-                Err(Untaken::Body(BodyError::Io(e)))
-            }
-        }
+        Ok(count) => Ok(count),
         Err(e) => Err(Untaken::Body(e)),
     }
 }

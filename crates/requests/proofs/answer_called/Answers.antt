@@ -2,7 +2,7 @@
 use Rattle.std.proofs.Common.{◌≡◌, ◌⊎◌, All, Bool, List, ℕ, None, [], ◌∷◌, true, false, inr, ap, sym, ◌∙◌, refl, inl, arith}
 use Rattle.requests.proofs.Names.{All-cons, All-nil, Before, ends_of, is_known, IsClosed, IsHead, left_of, MayFollow, Over, ParsedHead, Place, stream_at, Unbuffered, Unsent, usual}
 use Rattle.requests.proofs.Answering.{RunsToLast-one, no_turn, one_answered, torn_answered}
-use Rattle.requests.proofs.Reading.{Closes-one, begun_head, begun_steady, no_shorter, steadily}
+use Rattle.requests.proofs.Reading.{AsksFew-upto, Closes-one, begun_head, steadily}
 use Rattle.requests.proofs.answer_called.Goals as goal
 
 -- another may follow a message, or none does
@@ -14,17 +14,17 @@ follows s place {head} {payload} {said} true is same ends =
 follows s place {said = said} false is same ends = inr (Closes-one (said, is, same), refl, refl, ends)
 
 pub returns-then-said-clause-turns : goal.returns-then-said-clause-turns
-returns-then-said-clause-turns g c = λ s w begun call.
+returns-then-said-clause-turns g c = λ s w v come call.
     let b = c.args.body in
-    let head = begun_head begun c.requires.enters in
+    let head = begun_head come in
     let whole = c.in-Ok.ensures.whole in
-    let reads = steadily (begun_steady begun) c.in-Ok.ensures.steady in
+    let reads = steadily come.reads c.in-Ok.ensures.steady in
     let keeps = sym (ap (λ x. x.keeps) c.said-said.ensures.value) ∙ c.if-said.true in (
       record {
         messages = (b.head, whole.1) ∷ [];
         each = (
           (left_of c.in-Ok.requests, c.answer_whole.new.writer),
-          one_answered c.requires.open begun c.requires.enters whole
+          one_answered c.requires.open come whole
               c.said-said.ensures.value (c.is_known-known.ensures ∙ ap is_known c.head.ensures) call c.in-Ok.ensures.writes
               c.in-Ok-answer_whole.ensures,
           no_turn (left_of c.in-Ok.requests, c.answer_whole.new.writer),
@@ -32,19 +32,19 @@ returns-then-said-clause-turns g c = λ s w begun call.
         keep = All-cons (MayFollow true) (b.head, whole.1) [] (b.said, head, keeps) (All-nil (MayFollow true));
         reads = reads;
       },
-      omega (arith, no_shorter reads.faults),
+      omega arith,
     )
 
 pub returns-else-said-clause-turns : goal.returns-else-said-clause-turns
-returns-else-said-clause-turns g c = λ s w begun call.
+returns-else-said-clause-turns g c = λ s w v come call.
     let b = c.args.body in
-    let head = begun_head begun c.requires.enters in
+    let head = begun_head come in
     let whole = c.in-Ok.ensures.whole in
-    let reads = steadily (begun_steady begun) c.in-Ok.ensures.steady in
-    let one = one_answered c.requires.open begun c.requires.enters
+    let reads = steadily come.reads c.in-Ok.ensures.steady in
+    let one = one_answered c.requires.open come
     whole c.said-said.ensures.value (c.is_known-known.ensures ∙ ap is_known c.head.ensures) call c.in-Ok.ensures.writes
     c.in-Ok-answer_whole.ensures in
-    RunsToLast-one [] [] (Before c.in-Ok.requests) (refl, refl) reads.asks
+    RunsToLast-one [] [] (Before c.in-Ok.requests) (refl, refl) (AsksFew-upto reads.asks (omega arith))
     ((b.head, c.in-Ok.ensures.whole.1) ∷ []) None tt Over (one, refl, refl) (
       reads.faults,
       inl (
@@ -56,21 +56,21 @@ returns-else-said-clause-turns g c = λ s w begun call.
     )
 
 pub returns-in-Err-answer_whole-clause-turns : goal.returns-in-Err-answer_whole-clause-turns
-returns-in-Err-answer_whole-clause-turns g c = λ s w begun call.
+returns-in-Err-answer_whole-clause-turns g c = λ s w v come call.
     let b = c.args.body in
-    let head = begun_head begun c.requires.enters in
-    let reads = steadily (begun_steady begun) c.in-Ok.ensures.steady in
-    let one = one_answered c.requires.open begun c.requires.enters
+    let head = begun_head come in
+    let reads = steadily come.reads c.in-Ok.ensures.steady in
+    let one = one_answered c.requires.open come
     c.in-Ok.ensures.whole c.said-said.ensures.value (c.is_known-known.ensures ∙ ap is_known c.head.ensures) call
     c.in-Ok.ensures.writes c.in-Err-answer_whole.ensures in
-    RunsToLast-one [] [] (Before c.in-Ok.requests) (refl, refl) reads.asks
+    RunsToLast-one [] [] (Before c.in-Ok.requests) (refl, refl) (AsksFew-upto reads.asks (omega arith))
     ((b.head, c.in-Ok.ensures.whole.1) ∷ []) None tt (Unsent c.in-Err-answer_whole.e) (one, refl, refl)
-    (reads.faults, follows (left_of s) (Before c.in-Ok.requests) b.said.keeps head refl reads.ends)
+    (reads.faults, follows s (Before c.in-Ok.requests) b.said.keeps head refl reads.ends)
 
 pub returns-in-Err-clause-turns : goal.returns-in-Err-clause-turns
-returns-in-Err-clause-turns g c = λ s w begun call.
+returns-in-Err-clause-turns g c = λ s w v come call.
     let part = c.in-Err.ensures.part in
-    torn_answered c.requires.open begun c.requires.enters part.1 call
+    torn_answered c.requires.open come part.1 call
     c.in-Err.why c.unended-ending.result part.2 c.in-Err.ensures.writes c.unended-ending.ensures
 
 pub returns-in-Err-clause-room : goal.returns-in-Err-clause-room

@@ -1,10 +1,9 @@
--- What a turn answered joins what was answered before, and each turn counts a message or an interruption.
+-- What a turn answered joins what was answered before, and each turn counts a message.
 use Rattle.std.proofs.Common.{[], ◌++◌, ◌∙◌, None, true, refl, sym, append-nil, arith, length-append}
 use Rattle.requests.proofs.Names.{All-append, All-nil, AwaitsHead, left_of, MayFollow, StreamWent-none}
 use Rattle.requests.specs.declared.Ending.TheVariants.{Many}
 use Rattle.requests.proofs.Answering.{no_turn}
-use Rattle.requests.proofs.Reading.{steadily, steady_same}
-use Rattle.requests.proofs.RowLaws.{row_ends, row_joins, row_over, row_still}
+use Rattle.requests.proofs.Reading.{AsksFew-after, AsksFew-upto, steadily, steady_same}
 use Rattle.requests.proofs.Sending.{Prompt-none}
 use Rattle.requests.proofs.Turns.{AnswersEach-held, AnswersEach-joins, RunsToLast-after, RunsToLast-held}
 use Rattle.requests.proofs.serve.Goals as goal
@@ -18,7 +17,6 @@ loop-message-init g c = record {
     reads = steady_same _ _ refl;
   };
   turns = omega arith;
-  row = row_still (record { few = omega arith; met = omega arith }) refl;
   held = c.requires.held;
   limits = c.requires.limits;
   room = refl;
@@ -39,7 +37,6 @@ loop-message-preserved g c =
         reads = steadily a.reads b.reads;
       };
       turns = omega (arith, before.turns, c.in-Ok.ensures.turns.1, length-append a.messages b.messages);
-      row = row_joins before.row c.in-Ok.ensures.row;
       held = AnswersEach-held g.R.TellRead.remaining g.W.Tell.log g.W.TellWrite.trace b.messages
           (left_of c.loop-message.next, c.loop-message.writer) (left_of c.in-Ok.behind, c.answer.new.writer) b.each before.held;
       limits = c.in-Ok.ensures.limits;
@@ -55,7 +52,7 @@ send_last-answer-requires g c = record {
 pub returns-in-Err : goal.returns-in-Err
 returns-in-Err g c = record {
   room = c.in-Err.ensures.room ∙ c.loop-message.invariant.room;
-  few = row_ends c.loop-message.invariant.row c.in-Err.ensures.row;
+  few = (AsksFew-after c.loop-message.invariant.goes.reads c.in-Err.ensures.turns.asks (omega arith)).few;
   serves = record {
     ending = c.in-Err.ending;
     held = c.answer.new.writer;
@@ -66,7 +63,7 @@ returns-in-Err g c = record {
 }
 
 pub returns-clause-few : goal.returns-clause-few
-returns-clause-few g c = row_over c.loop-message.invariant.row
+returns-clause-few g c = omega (arith, c.loop-message.invariant.goes.reads.asks.few)
 
 pub returns-clause-serves : goal.returns-clause-serves
 returns-clause-serves g c =
@@ -90,7 +87,7 @@ returns-clause-serves g c =
             Prompt-none AwaitsHead (left_of c.loop-message.next, c.loop-message.writer),
           );
         };
-        asks = before.goes.reads.asks;
+        asks = AsksFew-upto before.goes.reads.asks (omega arith);
         wrong = tt;
         ends = (before.goes.reads.faults, before.goes.keep, refl, omega (arith, before.turns, c.loop-message-test.false));
       };

@@ -2,13 +2,7 @@
 use Rattle.std.proofs.Common.{◌≡◌, ◌++◌, ◌∙◌, ap, false, length, Ok, subst, sym}
 use Rattle.requests.proofs.Names.{body_rules, handed_of, is_large, IsAwaited, Prompt, ReadsSteadily, stream_in, TakesWhole, TookWholeBody, whole_body}
 use Rattle.requests.proofs.Reading.{finishes, inside_went, left_there}
-use Rattle.requests.specs.Rows.{RowOn}
 use Rattle.requests.proofs.taking.take_whole.Goals as goal
-
-pub returns-in-Ok-finish-clause-row : goal.returns-in-Ok-finish-clause-row
-returns-in-Ok-finish-clause-row g c =
-    subst (λ u. RowOn (stream_in c.args.body) c.args.row.now u c.payload_len.new.row)
-    (sym (left_there c.in-Ok.ensures.ended c.in-Ok-finish.ensures.ends)) c.in-Ok.ensures.row
 
 pub returns-in-Ok-finish-clause-limits : goal.returns-in-Ok-finish-clause-limits
 returns-in-Ok-finish-clause-limits g c = ap (λ d. d.0) c.in-Ok-finish.ensures.limits ∙ c.in-Ok.ensures.goes.1.limits
@@ -39,7 +33,7 @@ returns-in-Ok-finish-clause-whole g c =
     )
 
 pub returns-in-Ok-finish-clause-steady : goal.returns-in-Ok-finish-clause-steady
-returns-in-Ok-finish-clause-steady g c = subst (ReadsSteadily (stream_in c.args.body))
+returns-in-Ok-finish-clause-steady g c = subst (ReadsSteadily 0 (stream_in c.args.body))
     (sym (left_there c.in-Ok.ensures.ended c.in-Ok-finish.ensures.ends)) c.in-Ok.ensures.steady
 
 pub returns-in-Ok-finish-clause-writes : goal.returns-in-Ok-finish-clause-writes
