@@ -1,5 +1,5 @@
 -- What a whole run of `encode` comes to.
-use Rattle.std.proofs.Common.{◌≡◌, ℕ, ◌+◌, ◌<◌, inl, inr, List, [], ◌++◌, length, length-append, Option, Result, Ok, Err, OnOk, refl, sym, ap, subst, ◌∙◌, arith, append_assoc, append-nil}
+use Rattle.std.proofs.Common.{◌≡◌, ◌≤◌, ℕ, ◌+◌, ◌<◌, inl, inr, List, [], ◌++◌, length, length-append, Option, Result, Ok, Err, OnOk, refl, sym, ap, subst, ◌∙◌, arith, append_assoc, append-nil}
 use Rattle.std.proofs.lemmas.List.{nil_from_length}
 use Rattle.std.proofs.lemmas.List.Elements.{All-nil, All-weaker}
 use Rattle.std.specs.List.{concat, flat_map}
@@ -118,7 +118,7 @@ module _ {R W : Type 0} (remaining : R → Option (List ℕ)) (trace : W → W �
     not_ended : end ≡ [] → IsUnended moved
     not_ended nothing = unended moved
         (is_chunks (order.sent ++ v.block.bytes) (part ∙ ap (λ l. chunks ++ l) nothing ∙ append-nil chunks))
-        (omega (arith, over.moves.hands.each, ap length none))
+        (record { each = omega (arith, over.moves.hands.each, ap length none); small = over.moves.hands.small })
 
     is_ended : end ≡ body_end [] → t.source.block.bytes ≡ []
         → t.source.log.reads.zero_reads ≡ first.log.reads.zero_reads + 1 → IsEnded moved
@@ -129,7 +129,10 @@ module _ {R W : Type 0} (remaining : R → Option (List ℕ)) (trace : W → W �
       is_body = λ limits line. subst (λ l. IsBodyOfChunks limits l (concat over.payloads))
           (sym (part ∙ ap (λ l. chunks ++ l) all))
           ((written chunks (concat over.payloads) (is_chunks chunks refl)).is_body limits line);
-    }) (omega (arith, over.moves.hands.each, ap length none, ap length left)) left once
+    }) (record {
+      each = omega (arith, over.moves.hands.each, ap length none, ap length left);
+      small = over.moves.hands.small;
+    }) left once
 
   -- the end of the body went over, or not
   module _ (count : ℕ) (over : Forwarded rules count begin t) (left : t.source.block.bytes ≡ []) (met : NoneFailed rules begin t)
@@ -230,7 +233,11 @@ refused read read' written written' e p =
     let moved = moved_none read written in
     let none_yet : IsChunks [] [] = record { payloads = []; carried = All-nil IsCarried; equal = refl; joined = refl } in
     rw (p.read_same, p.written_same) (record {
-      ran = (moved, unended moved none_yet (omega arith), inr (rw (p.read_same, p.written_same) at p));
+      ran = (
+        moved,
+        unended moved none_yet (record { each = omega arith; small = All-nil (λ payload. length payload ≤ 8192) }),
+        inr (rw (p.read_same, p.written_same) at p),
+      );
       offers = inl refl;
       promptly = RunsPromptly-none IsDue 1 read written;
     })

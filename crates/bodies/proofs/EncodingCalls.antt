@@ -3,6 +3,7 @@ use Rattle.std.proofs.Common.{◌⊎◌, ◌≡◌, ℕ, ◌+◌, ◌<◌, ◌�
 use Rattle.std.proofs.lemmas.Bool.{cases_lt}
 use Rattle.std.proofs.lemmas.Bool.Decides.{nat_tests}
 use Rattle.std.proofs.lemmas.List.{nil_from_length}
+use Rattle.std.proofs.lemmas.List.Elements.{All-cons, All-nil}
 use Rattle.std.specs.IoError.{error_kind}
 use Rattle.std.specs.List.{flat_map}
 use Rattle.std.specs.declared.io.ErrorKind.TheVariants.{InvalidInput}
@@ -250,6 +251,9 @@ module _ {R W : Type 0} (remaining : R → Option (List ℕ)) (tells : W → Str
                   length-append s.source.block.bytes gone.in_order.got,
                   length-append s.source.log.reads.given gone.in_order.got,
                 );
+                small = All-cons (λ payload. length payload ≤ 8192) payload []
+                    (omega (arith, within, length-take-le (suc n) s.source.block.bytes within, held.fits, ready.capacity))
+                    (All-nil (λ payload. length payload ≤ 8192));
                 room = same;
               };
               takes = chunks;
@@ -300,6 +304,7 @@ module _ {R W : Type 0} (remaining : R → Option (List ℕ)) (tells : W → Str
             hands = record {
               along = along;
               each = omega (arith, each, some, (fill_asks s.source t filled fills).1, ap length lacks);
+              small = All-nil (λ payload. length payload ≤ 8192);
               room = same;
             };
             takes = takes;

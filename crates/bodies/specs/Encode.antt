@@ -1,5 +1,6 @@
 -- What a run of `encode` moves from a reader to a writer.
 use Rattle.std.specs.Prelude.{◌≡◌, ℕ, ◌+◌, ◌<◌, ◌≤◌, ◌⊎◌, List, [], ◌++◌, length, min, Result, Ok, Err, MatchResult, false}
+use Rattle.std.specs.List.{All}
 use Rattle.std.specs.declared.io.Error.{Error}
 use Rattle.buffer_redux.specs.StreamLog.{ReadLog}
 use Rattle.forward.specs.Flushes.{FlushesSend}
@@ -44,11 +45,12 @@ pub record IsEncodedBody (body payload : List ℕ) : Type 0 where
 abbrev pub IsCut : List ℕ → Type 0
 IsCut bytes = (limits : Limits) (body payload more : List ℕ) → IsBodyOfChunks limits body payload → ¬ (bytes ≡ body ++ more)
 
--- there is a chunk for each read that gave bytes, but for the last where they are left: each other one gave none, or failed
-abbrev pub ChunkEachRead : List (List ℕ) → List ℕ → ReadLog → ReadLog → Type 0
-ChunkEachRead payloads left old new =
-    new.asks + old.zero_reads + length old.faults
-    ≡ old.asks + new.zero_reads + length new.faults + length payloads + min 1 (length left)
+-- there is a chunk for each read that gave bytes, but for the last where they are left: each other one gave none, or failed. And
+-- no chunk has more than a read may give
+pub record ChunkEachRead (payloads : List (List ℕ)) (left : List ℕ) (old new : ReadLog) : Type 0 where
+  pub each : new.asks + old.zero_reads + length old.faults
+      ≡ old.asks + new.zero_reads + length new.faults + length payloads + min 1 (length left)
+  pub small : All (λ payload. length payload ≤ 8192) payloads
 
 -- the payload that was taken became chunks, one for each read, which no last one follows
 pub record IsUnended {read read' written written' : StreamLog} (m : Moved read read' written written') : Type 0 where
@@ -86,8 +88,8 @@ EncodeRan read read' written written' (Err (Io e)) =
     × (OverCount e (length m.taken) read read' written written' ⊎ RefusedBeforeCalls e read read' written written')
 EncodeRan read read' written written' (Err (Wrong fault)) = ⊥
 
--- all that a run of `encode` promises: each ask was for 8192 bytes, so that no chunk has more, and the writer was flushed once
--- for each at most, and once more
+-- all that a run of `encode` promises: the last ask was for 8192 bytes, and the writer was flushed once for each at most, and
+-- once more
 pub record Encodes (read read' written written' : StreamLog) (answer : Result (Unit {0}) (RunError InputFault)) : Type 0 where
   pub ran : EncodeRan read read' written written' answer
   pub offers : OffersBuffer false 8192 read read'

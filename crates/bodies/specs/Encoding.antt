@@ -1,6 +1,6 @@
 -- A filter that makes what is given chunks.
 use Rattle.std.specs.Prelude.{◌≡◌, ℕ, ◌+◌, ◌<◌, ◌≤◌, List, [], length, min, MatchResult, Option}
-use Rattle.std.specs.List.{concat}
+use Rattle.std.specs.List.{All, concat}
 use Rattle.bodies.specs.Words.{Buffered, Flushes, ReadsAlong, std_read_rules, StdPolicy, ChunksWent, IsChunkedWriter, FilterRules, AllSent, around, target_of, InputFault}
 use Rattle.bodies.specs.Encode.{IsDue}
 use Rattle.bodies.specs.Filters.{Asked}
@@ -14,13 +14,14 @@ pub record MayEncode {R W : Type 0} (s : Encoding R W) : Type 0 where
   pub between : s.target.due ≡ 0
   pub whole : IsChunkedWriter s.target
 
--- the payloads were handed out by a buffer that kept its size, each for a read that gave bytes, but for one whose bytes are left;
--- each other read gave none, or failed
+-- the payloads were handed out by a buffer that kept its size, each for a read that gave bytes, 8192 at most, but for one whose
+-- bytes are left; each other read gave none, or failed
 pub record HandsReads {R : Type 0} (remaining : R → Option (List ℕ)) (s : Buffered R StdPolicy) (payloads : List (List ℕ))
     (t : Buffered R StdPolicy) : Type 0 where
   pub along : ReadsAlong remaining std_read_rules s (concat payloads) t
   pub each : t.log.reads.asks + s.log.reads.zero_reads + length s.log.reads.faults + min 1 (length s.block.bytes)
       ≡ s.log.reads.asks + t.log.reads.zero_reads + length t.log.reads.faults + length payloads + min 1 (length t.block.bytes)
+  pub small : All (λ payload. length payload ≤ 8192) payloads
   pub room : t.block.capacity ≡ s.block.capacity
 
 -- the reader inside was asked, for a whole buffer, where nothing was buffered

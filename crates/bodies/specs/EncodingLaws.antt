@@ -1,5 +1,6 @@
 -- What is given is handed out in order, and what is due is sent with it.
-use Rattle.std.proofs.Common.{◌≡◌, ℕ, inl, inr, List, [], ◌++◌, Option, Result, Ok, Err, false, refl, ap, ◌∙◌, arith, append-nil, length-append}
+use Rattle.std.proofs.Common.{◌≡◌, ◌≤◌, ℕ, inl, inr, List, [], ◌++◌, length, Option, Result, Ok, Err, false, refl, ap, ◌∙◌, arith, append-nil, length-append}
+use Rattle.std.proofs.lemmas.List.Elements.{All-append, All-nil}
 use Rattle.std.proofs.lemmas.List.Folds.{concat-append}
 use Rattle.std.specs.List.{concat, flat_map}
 use Rattle.buffer_redux.specs.ReaderLaws.{ReadsAlong-joins, ReadsAlong-none}
@@ -14,13 +15,19 @@ use Rattle.bodies.specs.declared.encoding.Encoding.{Encoding}
 
 module _ {R : Type 0} (remaining : R → Option (List ℕ)) where
   pub HandsReads-none : (s : Buffered R StdPolicy) → HandsReads remaining s [] s
-  HandsReads-none s = record { along = ReadsAlong-none remaining std_read_rules s; each = omega arith; room = refl }
+  HandsReads-none s = record {
+    along = ReadsAlong-none remaining std_read_rules s;
+    each = omega arith;
+    small = All-nil (λ payload. length payload ≤ 8192);
+    room = refl;
+  }
 
   HandsReads-joins : (a b c : Buffered R StdPolicy) (p q : List (List ℕ)) → HandsReads remaining a p b
       → HandsReads remaining b q c → HandsReads remaining a (p ++ q) c
   HandsReads-joins a b c p q f g = record {
     along = rw concat-append (ReadsAlong-joins remaining std_read_rules a b c (concat p) (concat q) f.along g.along);
     each = omega (arith, f.each, g.each, length-append p q);
+    small = All-append (λ payload. length payload ≤ 8192) p q f.small g.small;
     room = g.room ∙ f.room;
   }
 
