@@ -18,12 +18,11 @@ use Rattle.bodies.specs.Decode.{DecodeRan, DecodesBody, IsBodyPart, IsDue}
 use Rattle.bodies.specs.Decoding.{MayDecode, NoneBuffered, PayloadEnds, decoding_rules, held_payload}
 use Rattle.bodies.specs.DecodingLaws.{none_held}
 use Rattle.programs.specs.Outcome.{IsErrorOf}
-use Rattle.bodies.specs.FiltersLaws.{each_some}
-use Rattle.bodies.specs.Moved.{Moved, MovedAll}
+use Rattle.bodies.specs.Filters.{each_some}
+use Rattle.bodies.specs.Moved.{Moved, MovedAll, all_given, moved_none}
 use Rattle.bodies.specs.declared.decoding.Decoding.{Decoding}
 use Rattle.programs.specs.declared.error.RunError.TheVariants.{Io, Wrong}
 use Rattle.bodies.specs.declared.fault.InputFault.TheVariants.{NotChunked, Truncated, Behind}
-use Rattle.bodies.proofs.Moves.{all_given, moved_none}
 
 -- a filter before a body
 abbrev pub start : {R W : Type 0} → Limits → Buffered R StdPolicy → Buffered W StdPolicy → Vec ℕ → Decoding R W

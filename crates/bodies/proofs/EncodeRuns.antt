@@ -1,27 +1,14 @@
 -- What a whole run of `encode` comes to.
-use Rattle.std.proofs.Common.{◌≡◌, ◌≤◌, ℕ, ◌+◌, ◌<◌, inl, inr, List, [], ◌++◌, length, length-append, Option, Result, Ok, Err, OnOk, refl, sym, ap, subst, ◌∙◌, arith, append_assoc, append-nil}
-use Rattle.std.proofs.lemmas.List.{nil_from_length}
-use Rattle.std.proofs.lemmas.List.Elements.{All-nil, All-weaker}
-use Rattle.std.specs.List.{concat, flat_map}
-use Rattle.buffer_redux.specs.ReaderLaws.{ReadsInOrder-fresh}
-use Rattle.buffer_redux.specs.WriterLaws.{WritesInOrder-joins, WritesInOrder-none}
+use Rattle.std.proofs.Common.{◌≡◌, ◌≤◌, ℕ, ◌+◌, ◌<◌, inl, inr, List, [], ◌++◌, length, length-append, Result, Ok, Err, OnOk, refl, sym, ap, subst, ◌∙◌, arith, append_assoc, append-nil}
 use Rattle.chunked.specs.BodyLaws.{IsBodyOfChunks-same}
-use Rattle.chunked.specs.ChunkLaws.{IsChunks-body}
-use Rattle.forward.specs.Forward.{Forwarded, NoneFailed, StopsBy}
-use Rattle.forward.specs.ForwardLaws.{ForwardedFirst-all}
-use Rattle.forward.specs.PromptLaws.{RunsPromptly-none}
-use Rattle.forward.specs.StreamsLaws.{MetNoFault-joins, WriteGaveUp-after, WriteGaveUp-so}
-use Rattle.forward.specs.declared.error.Cause.{Cause}
+use Rattle.chunked.specs.ChunkLaws.{IsChunks-body, chunks_body}
+use Rattle.programs.specs.declared.error.RunError.TheVariants.{Io}
 use Rattle.forward.specs.declared.error.Cause.TheVariants as cause
-use Rattle.bodies.specs.Words.{Error, WritesInOrder, Buffered, OnlyInterrupts-none, StreamLog, StdPolicy, IsBodyOfChunks, IsCarried, IsChunks, body_end, unbegun, Limits, FilterRules, AllSent, RefusedBeforeCalls, RunError, InputFault, chunk}
+use Rattle.bodies.specs.Words.{nil_from_length, All-nil, All-weaker, concat, flat_map, ReadsInOrder-fresh, WritesInOrder-joins, WritesInOrder-none, Forwarded, NoneFailed, StopsBy, ForwardedFirst-all, RunsPromptly-none, MetNoFault-joins, WriteGaveUp-after, WriteGaveUp-so, Cause, Error, WritesInOrder, Buffered, OnlyInterrupts-none, StreamLog, StdPolicy, IsBodyOfChunks, IsCarried, IsChunks, body_end, unbegun, Limits, FilterRules, AllSent, RefusedBeforeCalls, RunError, InputFault, chunk, IsErrorOf, Encoding}
 use Rattle.bodies.specs.Encode.{ChunkEachRead, EncodeRan, Encodes, EndsBody, IsCut, IsDue, IsEncodedBody, IsEnded, IsUnended}
 use Rattle.bodies.specs.Encoding.{encoding_rules}
-use Rattle.programs.specs.Outcome.{IsErrorOf}
-use Rattle.bodies.specs.FiltersLaws.{each_some}
-use Rattle.bodies.specs.Moved.{Moved, MovedAll}
-use Rattle.bodies.specs.declared.encoding.Encoding.{Encoding}
-use Rattle.programs.specs.declared.error.RunError.TheVariants.{Io}
-use Rattle.bodies.proofs.Moves.{all_given, moved_none}
+use Rattle.bodies.specs.Filters.{each_some}
+use Rattle.bodies.specs.Moved.{Moved, MovedAll, all_given, moved_none}
 
 abbrev least : Limits
 least = record { line = 16; trailers = 0 }
@@ -40,47 +27,26 @@ cut_short sent behind payload whole some limits body payload' more is begins =
       length-append body more,
     ))
 
--- chunks are no body, and with its end they are one
-written : (bytes payload : List ℕ) → IsChunks bytes payload → IsEncodedBody (bytes ++ body_end []) payload
-written bytes payload is = record {
-  chunks = bytes;
-  carries = is;
-  ended = refl;
-  is_body = λ limits line. IsChunks-body limits line [] tt (omega arith) bytes payload is;
+-- the body's end, with which chunks are one, wasn't taken in
+unended : {read read' written' written'' : StreamLog} (m : Moved read read' written' written'')
+    (chunks : IsChunks (m.sent ++ m.unsent) m.taken) → ChunkEachRead chunks.payloads m.rest read.reads read'.reads → IsUnended m
+unended m chunks each = record {
+  chunks = chunks;
+  each = each;
+  cut = cut_short m.sent (m.unsent ++ body_end []) m.taken
+      (rw append_assoc at (IsChunks-body least (omega arith) [] tt (omega arith) (m.sent ++ m.unsent) m.taken chunks))
+      (omega (arith, length-append m.unsent (body_end [])));
 }
-
-module _ {read read' written' written'' : StreamLog} (m : Moved read read' written' written'') where
-  -- the body's end wasn't taken in, or was
-  unended : (chunks : IsChunks (m.sent ++ m.unsent) m.taken)
-      → ChunkEachRead chunks.payloads m.rest read.reads read'.reads → IsUnended m
-  unended chunks each = record {
-    chunks = chunks;
-    each = each;
-    cut = cut_short m.sent (m.unsent ++ body_end []) m.taken
-        (rw append_assoc at ((written (m.sent ++ m.unsent) m.taken chunks).is_body least (omega arith)))
-        (omega (arith, length-append m.unsent (body_end [])));
-  }
-
-  whole : (body : IsEncodedBody (m.sent ++ m.unsent) m.taken)
-      → ChunkEachRead body.carries.payloads [] read.reads read'.reads → m.rest ≡ []
-      → read'.reads.zero_reads ≡ read.reads.zero_reads + 1 → IsEnded m
-  whole body each left once = record {
-    body = body;
-    each = each;
-    cut = cut_short m.sent m.unsent m.taken (body.is_body least (omega arith));
-    all = left;
-    ended = once;
-  }
 
 -- a filter before a body
 abbrev pub start : {R W : Type 0} → Buffered R StdPolicy → Buffered W StdPolicy → Encoding R W
 start first u = record { source = first; target = unbegun u }
 
 -- from empty buffers on
-module _ {R W : Type 0} (remaining : R → Option (List ℕ)) (trace : W → W → Type 0) (first : Buffered R StdPolicy)
+module _ {R W : Type 0} (trace : W → W → Type 0) (first : Buffered R StdPolicy)
     (u : Buffered W StdPolicy) (none : first.block.bytes ≡ []) (none' : u.block.bytes ≡ []) (t : Encoding R W) where
   abbrev rules : FilterRules (Encoding R W) InputFault
-  rules = encoding_rules remaining trace
+  rules = encoding_rules trace
 
   abbrev begin : Encoding R W
   begin = start first u
@@ -98,7 +64,7 @@ module _ {R W : Type 0} (remaining : R → Option (List ℕ)) (trace : W → W �
     moved = record {
       taken = concat over.payloads;
       rest = t.source.block.bytes;
-      given = ReadsInOrder-fresh first t.source (concat over.payloads) none over.moves.hands.along.in_order;
+      given = ReadsInOrder-fresh first t.source (concat over.payloads) none over.moves.hands.in_order;
       sent = order.sent;
       unsent = v.block.bytes;
       received = order.received;
@@ -122,17 +88,25 @@ module _ {R W : Type 0} (remaining : R → Option (List ℕ)) (trace : W → W �
 
     is_ended : end ≡ body_end [] → t.source.block.bytes ≡ []
         → t.source.log.reads.zero_reads ≡ first.log.reads.zero_reads + 1 → IsEnded moved
-    is_ended all left once = whole moved (record {
-      chunks = chunks;
-      carries = is_chunks chunks refl;
-      ended = part ∙ ap (λ l. chunks ++ l) all;
-      is_body = λ limits line. subst (λ l. IsBodyOfChunks limits l (concat over.payloads))
-          (sym (part ∙ ap (λ l. chunks ++ l) all))
-          ((written chunks (concat over.payloads) (is_chunks chunks refl)).is_body limits line);
-    }) (record {
-      each = omega (arith, over.moves.hands.each, ap length none, ap length left);
-      small = over.moves.hands.small;
-    }) left once
+    is_ended all left once =
+        let whole = part ∙ ap (λ l. chunks ++ l) all in
+        let body : IsEncodedBody (order.sent ++ v.block.bytes) (concat over.payloads) = record {
+          chunks = chunks;
+          carries = is_chunks chunks refl;
+          ended = whole;
+          is_body = λ limits line. subst (λ l. IsBodyOfChunks limits l (concat over.payloads)) (sym whole)
+              (chunks_body limits line over.payloads over.moves.takes.carried);
+        } in
+        record {
+          body = body;
+          each = record {
+            each = omega (arith, over.moves.hands.each, ap length none, ap length left);
+            small = over.moves.hands.small;
+          };
+          cut = cut_short moved.sent moved.unsent moved.taken (body.is_body least (omega arith));
+          all = left;
+          ended = once;
+        }
 
   -- the end of the body went over, or not
   module _ (count : ℕ) (over : Forwarded rules count begin t) (left : t.source.block.bytes ≡ []) (met : NoneFailed rules begin t)

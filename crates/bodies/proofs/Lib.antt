@@ -1,7 +1,7 @@
 pub mod Passing
 pub mod Coming
-pub mod Moves
 pub mod DecodingCalls
 pub mod DecodeRuns
+pub mod Ending
 pub mod EncodingCalls
 pub mod EncodeRuns

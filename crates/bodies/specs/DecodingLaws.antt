@@ -8,8 +8,8 @@ use Rattle.body_reader.specs.Between.{LeavesRoom}
 use Rattle.body_reader.specs.BodyReaderLaws.{BodyWent-joins, BodyWent-none}
 use Rattle.bodies.specs.Words.{std_read_rules, StdPolicy, BodyWent, chunked, handed_of, AsksSent, FilterRules, NeverGaveNothing, IsLawful, Moves, StaysOpen, AllSent, sent_all, taken_more, InputFault}
 use Rattle.bodies.specs.Decode.{IsDue}
+use Rattle.bodies.specs.Filters.{asked_after}
 use Rattle.bodies.specs.Decoding.{AsksPromptly, HandsPayloadPieces, PayloadEnds, TakesPayload, decoding_rules, held_payload}
-use Rattle.bodies.specs.FiltersLaws.{asked_after}
 use Rattle.bodies.specs.declared.decoding.Decoding.{Decoding}
 use Rattle.bodies.specs.declared.fault.InputFault.TheVariants.{NotChunked, Truncated, Behind}
 

@@ -1,12 +1,9 @@
 -- What a run of `encode` moves from a reader to a writer.
 use Rattle.std.specs.Prelude.{◌≡◌, ℕ, ◌+◌, ◌<◌, ◌≤◌, ◌⊎◌, List, [], ◌++◌, length, min, Result, Ok, Err, MatchResult, false}
-use Rattle.std.specs.List.{All}
-use Rattle.std.specs.declared.io.Error.{Error}
-use Rattle.buffer_redux.specs.StreamLog.{ReadLog}
 use Rattle.forward.specs.Flushes.{FlushesSend}
-use Rattle.bodies.specs.Words.{Buffered, FaultsOften, FewFaults, failure_count, IsInterrupt, WritesInOrder, MetInterrupts, SendErrorCaused, StreamLog, StdPolicy, IsBodyOfChunks, IsChunks, body_end, Limits, RunsPromptly, WritesOn, AllSent, MetNoFault, ReadFailed, WriteGaveUp, OffersBuffer, OverCount, RefusedBeforeCalls, RunError, InputFault}
-use Rattle.bodies.specs.Moved.{Moved, MovedAll}
 use Rattle.programs.specs.declared.error.RunError.TheVariants.{Wrong, Read, Write, Io}
+use Rattle.bodies.specs.Words.{All, Error, ReadLog, Buffered, FaultsOften, FewFaults, failure_count, IsInterrupt, WritesInOrder, MetInterrupts, SendErrorCaused, StreamLog, StdPolicy, IsBodyOfChunks, IsChunks, body_end, Limits, RunsPromptly, WritesOn, AllSent, MetNoFault, ReadFailed, WriteGaveUp, OffersBuffer, OverCount, RefusedBeforeCalls, RunError, InputFault}
+use Rattle.bodies.specs.Moved.{Moved, MovedAll}
 
 -- what is due of these bytes: chunks with all of them
 abbrev pub IsDue : List ℕ → List ℕ → Type 0

@@ -1,10 +1,8 @@
 -- A filter that makes what is given chunks.
-use Rattle.std.specs.Prelude.{◌≡◌, ℕ, ◌+◌, ◌<◌, ◌≤◌, List, [], length, min, MatchResult, Option}
-use Rattle.std.specs.List.{All, concat}
-use Rattle.bodies.specs.Words.{Buffered, Flushes, ReadsAlong, std_read_rules, StdPolicy, ChunksWent, IsChunkedWriter, FilterRules, AllSent, around, target_of, InputFault}
+use Rattle.std.specs.Prelude.{◌≡◌, ℕ, ◌+◌, ◌<◌, ◌≤◌, List, [], length, min, MatchResult}
+use Rattle.bodies.specs.Words.{All, concat, Buffered, Flushes, ReadsInOrder, StdPolicy, ChunksWent, FilterRules, AllSent, around, target_of, InputFault, Encoding}
 use Rattle.bodies.specs.Encode.{IsDue}
 use Rattle.bodies.specs.Filters.{Asked}
-use Rattle.bodies.specs.declared.encoding.Encoding.{Encoding}
 
 -- what each call of the filter wants
 pub record MayEncode {R W : Type 0} (s : Encoding R W) : Type 0 where
@@ -12,13 +10,11 @@ pub record MayEncode {R W : Type 0} (s : Encoding R W) : Type 0 where
   -- no chunk of what one read may give is begun that doesn't fit
   pub fits : around + 8192 ≤ s.target.writer.block.capacity
   pub between : s.target.due ≡ 0
-  pub whole : IsChunkedWriter s.target
 
 -- the payloads were handed out by a buffer that kept its size, each for a read that gave bytes, 8192 at most, but for one whose
 -- bytes are left; each other read gave none, or failed
-pub record HandsReads {R : Type 0} (remaining : R → Option (List ℕ)) (s : Buffered R StdPolicy) (payloads : List (List ℕ))
-    (t : Buffered R StdPolicy) : Type 0 where
-  pub along : ReadsAlong remaining std_read_rules s (concat payloads) t
+pub record HandsReads {R : Type 0} (s : Buffered R StdPolicy) (payloads : List (List ℕ)) (t : Buffered R StdPolicy) : Type 0 where
+  pub in_order : ReadsInOrder s (concat payloads) t
   pub each : t.log.reads.asks + s.log.reads.zero_reads + length s.log.reads.faults + min 1 (length s.block.bytes)
       ≡ s.log.reads.asks + t.log.reads.zero_reads + length t.log.reads.faults + length payloads + min 1 (length t.block.bytes)
   pub small : All (λ payload. length payload ≤ 8192) payloads
@@ -31,12 +27,12 @@ pub record AsksBuffer {R : Type 0} (s t : Buffered R StdPolicy) : Type 0 where
   pub offer : t.log.reads.offer ≡ 8192
 
 -- at the end nothing is left, and the reader gave nothing, once. No byte is wrong
-abbrev pub encoding_rules : {R W : Type 0} → (R → Option (List ℕ)) → (W → W → Type 0) → FilterRules (Encoding R W) InputFault
-encoding_rules remaining trace = record {
+abbrev pub encoding_rules : {R W : Type 0} → (W → W → Type 0) → FilterRules (Encoding R W) InputFault
+encoding_rules trace = record {
   read = λ s. s.source.log;
   target = λ s. target_of s.target.writer;
   ready = λ s. MayEncode s;
-  hands = λ s payloads t. HandsReads remaining s.source payloads t.source;
+  hands = λ s payloads t. HandsReads s.source payloads t.source;
   takes = λ s payloads t. ChunksWent trace s.target payloads t.target;
   has = λ s. 0 < length s.source.block.bytes;
   lacks = λ s. s.source.block.bytes ≡ [];

@@ -1,51 +1,44 @@
 -- What is given is handed out in order, and what is due is sent with it.
-use Rattle.std.proofs.Common.{◌≡◌, ◌≤◌, ℕ, inl, inr, List, [], ◌++◌, length, Option, Result, Ok, Err, false, refl, ap, ◌∙◌, arith, append-nil, length-append}
-use Rattle.std.proofs.lemmas.List.Elements.{All-append, All-nil}
-use Rattle.std.proofs.lemmas.List.Folds.{concat-append}
-use Rattle.std.specs.List.{concat, flat_map}
-use Rattle.buffer_redux.specs.ReaderLaws.{ReadsAlong-joins, ReadsAlong-none}
-use Rattle.chunked.specs.ChunkedWriterLaws.{ChunksWent-joins, ChunksWent-none}
-use Rattle.forward.specs.ForwardLaws.{Goes-leaves}
+use Rattle.std.proofs.Common.{◌≡◌, ◌≤◌, length, ℕ, inl, inr, List, [], ◌++◌, Result, Ok, Err, false, refl, ap, ◌∙◌, arith, append-nil, length-append}
 use Rattle.forward.specs.Link.{Ask, Goes, Linked}
-use Rattle.bodies.specs.Words.{Buffered, std_read_rules, StdPolicy, AsksSent, IsLawful, Moves, OffersBuffer, StaysOpen, AllSent, sent_all, taken_more, InputFault, chunk}
+use Rattle.bodies.specs.Words.{All-append, All-nil, concat-append, concat, flat_map, ReadsInOrder-joins, ReadsInOrder-none, ChunksWent-joins, ChunksWent-none, Goes-leaves, Buffered, StdPolicy, AsksSent, IsLawful, Moves, OffersBuffer, StaysOpen, AllSent, sent_all, taken_more, InputFault, chunk, Encoding}
 use Rattle.bodies.specs.Encoding.{HandsReads, encoding_rules}
 use Rattle.bodies.specs.Filters.{Asked}
-use Rattle.bodies.specs.FiltersLaws.{asked_after}
-use Rattle.bodies.specs.declared.encoding.Encoding.{Encoding}
+use Rattle.bodies.specs.Filters.{asked_after}
 
-module _ {R : Type 0} (remaining : R → Option (List ℕ)) where
-  pub HandsReads-none : (s : Buffered R StdPolicy) → HandsReads remaining s [] s
+module _ {R : Type 0} where
+  pub HandsReads-none : (s : Buffered R StdPolicy) → HandsReads s [] s
   HandsReads-none s = record {
-    along = ReadsAlong-none remaining std_read_rules s;
+    in_order = ReadsInOrder-none s;
     each = omega arith;
     small = All-nil (λ payload. length payload ≤ 8192);
     room = refl;
   }
 
-  HandsReads-joins : (a b c : Buffered R StdPolicy) (p q : List (List ℕ)) → HandsReads remaining a p b
-      → HandsReads remaining b q c → HandsReads remaining a (p ++ q) c
+  HandsReads-joins : (a b c : Buffered R StdPolicy) (p q : List (List ℕ)) → HandsReads a p b
+      → HandsReads b q c → HandsReads a (p ++ q) c
   HandsReads-joins a b c p q f g = record {
-    along = rw concat-append (ReadsAlong-joins remaining std_read_rules a b c (concat p) (concat q) f.along g.along);
+    in_order = rw concat-append (ReadsInOrder-joins a b c (concat p) (concat q) f.in_order g.in_order);
     each = omega (arith, f.each, g.each, length-append p q);
     small = All-append (λ payload. length payload ≤ 8192) p q f.small g.small;
     room = g.room ∙ f.room;
   }
 
-module _ {R W : Type 0} (remaining : R → Option (List ℕ)) (trace : W → W → Type 0) where
-  ends_after : (a b c : Encoding R W) (how : Result (Unit {0}) InputFault) → StaysOpen (encoding_rules remaining trace) a b
-      → (encoding_rules remaining trace).ends b how c → (encoding_rules remaining trace).ends a how c
+module _ {R W : Type 0} (trace : W → W → Type 0) where
+  ends_after : (a b c : Encoding R W) (how : Result (Unit {0}) InputFault) → StaysOpen (encoding_rules trace) a b
+      → (encoding_rules trace).ends b how c → (encoding_rules trace).ends a how c
   ends_after a b c (Ok _) (inl gives) end = (end.0, omega (arith, end.1, gives.zero_reads))
   ends_after a b c (Ok _) (inr closed) end = absurd closed
   ends_after a b c (Err why) still end = absurd end
 
-  asks_sent : (first s t : Encoding R W) (p : List (List ℕ)) → (encoding_rules remaining trace).fresh first
-      → Moves (encoding_rules remaining trace) first p p s → StaysOpen (encoding_rules remaining trace) first s
+  asks_sent : (first s t : Encoding R W) (p : List (List ℕ)) → (encoding_rules trace).fresh first
+      → Moves (encoding_rules trace) first p p s → StaysOpen (encoding_rules trace) first s
       → AllSent s.target.writer → Asked (λ bytes. bytes ≡ []) s.source t.source
-      → AsksSent (encoding_rules remaining trace) first s t
+      → AsksSent (encoding_rules trace) first s t
   asks_sent first s t p fresh moves (inr closed) sent asked = absurd closed
   asks_sent first s t p fresh moves (inl gives) sent asked =
       elim (asked_after (λ bytes. bytes ≡ []) s.source t.source asked first.source (concat p) fresh.0
-      moves.hands.along.in_order gives.give) [
+      moves.hands.in_order gives.give) [
         | inl same ↦ inl same
         | inr (bytes, none, last) ↦ inr (record {
           before = concat p;
@@ -57,10 +50,10 @@ module _ {R W : Type 0} (remaining : R → Option (List ℕ)) (trace : W → W �
       ]
 
   pub encoding_lawful : ((x : W) → trace x x) → ((a b c : W) → trace a b → trace b c → trace a c)
-      → IsLawful (encoding_rules {R = R} {W = W} remaining trace)
+      → IsLawful (encoding_rules {R = R} {W = W} trace)
   encoding_lawful none joins = record {
-    hands_none = λ s. HandsReads-none remaining s.source;
-    hands_joins = λ a b c p q. HandsReads-joins remaining a.source b.source c.source p q;
+    hands_none = λ s. HandsReads-none s.source;
+    hands_joins = λ a b c p q. HandsReads-joins a.source b.source c.source p q;
     takes_none = λ s. ChunksWent-none trace none joins s.target;
     takes_joins = λ a b c p q. ChunksWent-joins trace none joins a.target b.target c.target p q;
     ends_after = λ a b c p how hands still end. ends_after a b c how still end;
@@ -72,8 +65,8 @@ module _ {R W : Type 0} (remaining : R → Option (List ℕ)) (trace : W → W �
 
   -- each ask was for a whole buffer
   pub Goes-offers : {Such : Ask (Encoding R W) → Type 0} {more : ℕ} (s t : Linked (Encoding R W))
-      → Goes (encoding_rules remaining trace) Such more s t → OffersBuffer false 8192 s.filter.source.log t.filter.source.log
-  Goes-offers s t goes = elim (Goes-leaves (encoding_rules remaining trace) (λ log. log.reads.offer ≡ 8192)
+      → Goes (encoding_rules trace) Such more s t → OffersBuffer false 8192 s.filter.source.log t.filter.source.log
+  Goes-offers s t goes = elim (Goes-leaves (encoding_rules trace) (λ log. log.reads.offer ≡ 8192)
       (λ s t asks. inr asks.offer) s t goes) [
         | inl same ↦ inl (ap (λ l. l.reads) same)
         | inr all ↦ inr all

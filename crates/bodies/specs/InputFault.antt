@@ -3,7 +3,7 @@ use Rattle.std.proofs.Common.{◌≤◌, ℕ, List, ◌++◌, lit≤}
 use Rattle.std.specs.Prelude.{codes}
 use Rattle.std.specs.Fmt.{decimal}
 use Rattle.chunked.specs.Error.{malformed_text}
-use Rattle.bodies.specs.declared.fault.InputFault.{InputFault}
+use Rattle.bodies.specs.Words.{InputFault}
 use Rattle.bodies.specs.declared.fault.InputFault.TheVariants.{NotChunked, Truncated, Behind}
 
 -- the status that the process ends with

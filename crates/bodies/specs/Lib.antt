@@ -1,7 +1,5 @@
 pub mod InputFault
 pub mod Filters
-pub mod FillLaws
-pub mod FiltersLaws
 pub mod Moved
 pub mod Decode
 pub mod Decoding

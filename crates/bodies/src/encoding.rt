@@ -20,7 +20,7 @@ pub struct Encoding<R: TellRead, W: TellWrite> {
 impl<R: TellRead, W: TellWrite> Filter for Encoding<R, W> {
     type Wrong = InputFault;
 
-    ghost rules = { encoding_rules R.remaining W.trace };
+    ghost rules = { encoding_rules W.trace };
 
     #[inline(always)]
     fn pass(&mut self) -> io::Result<bool> {
@@ -40,11 +40,12 @@ impl<R: TellRead, W: TellWrite> Filter for Encoding<R, W> {
     fn ask(&mut self) -> Result<bool, AskError<InputFault>> {
         // Says that the reader is whole.
         let _ = self.source.buffer();
-        match self.source.fill_buf() {
-            Ok(came) => Ok(!came.is_empty()),
+        match self.source.read_into_buf() {
+            Ok(0) => Ok(false),
+            Ok(_) => Ok(true),
             Err(e) => Err(AskError::Io(e)),
         }
     }
 
-    ghost lawful = { encoding_lawful R.remaining W.trace W.trace_none W.trace_joins };
+    ghost lawful = { encoding_lawful W.trace W.trace_none W.trace_joins };
 }

@@ -1,7 +1,6 @@
 -- From empty buffers on, what `forward` says of payloads holds of chunks; where all went over the body's end follows.
 use Rattle.std.proofs.Common.{refl, arith, ◌∙◌}
-use Rattle.forward.specs.ForwardLaws.{Forwards-moves, Goes-holds, Goes-per_ask, one_flush}
-use Rattle.forward.specs.PromptLaws.{HoldsNothingBack-on}
+use Rattle.bodies.specs.Words.{Forwards-moves, Goes-holds, Forwards-runs, Goes-per_ask, HoldsNothingBack-on}
 use Rattle.bodies.specs.Encode.{IsDue}
 use Rattle.bodies.specs.Encoding.{encoding_rules}
 use Rattle.bodies.specs.EncodingLaws.{Goes-offers}
@@ -10,7 +9,7 @@ use Rattle.bodies.proofs.encode.encode_all.Goals as goal
 
 pub returns-in-Ok : goal.returns-in-Ok
 returns-in-Ok g c =
-    let rules = encoding_rules g.R.TellRead.remaining g.W.TellWrite.trace in
+    let rules = encoding_rules g.W.TellWrite.trace in
     let t = c.forward-answer.new.link in
     let over = rw (c.new-link.ensures, c.new.ensures.begun) at c.in-Ok.ensures.forwards in
     let answers = over.answers in
@@ -21,10 +20,10 @@ returns-in-Ok g c =
       read_room = moves.hands.room;
       write_room = end.room ∙ moves.takes.went.capacity;
       encodes = record {
-        ran = ended g.R.TellRead.remaining g.W.TellWrite.trace c.args.source c.args.target c.requires.empty
+        ran = ended g.W.TellWrite.trace c.args.source c.args.target c.requires.empty
             c.requires.target.bytes t.filter _ answers.0 answers.1.0 answers.3 c.end-answer.result.1 answers.1.1
             c.end-answer.result.0 end;
-        offers = Goes-offers g.R.TellRead.remaining g.W.TellWrite.trace _ t over.goes;
+        offers = Goes-offers g.W.TellWrite.trace _ t over.goes;
         promptly = record {
           prompt = HoldsNothingBack-on IsDue c.args.source.log _ _ c.args.target.log _ _ (Goes-holds rules _ t over.goes)
               refl end.writes;
@@ -39,7 +38,7 @@ returns-in-Ok g c =
 
 pub returns-in-Err : goal.returns-in-Err
 returns-in-Err g c =
-    let rules = encoding_rules g.R.TellRead.remaining g.W.TellWrite.trace in
+    let rules = encoding_rules g.W.TellWrite.trace in
     let t = c.forward-answer.new.link in
     let over = rw (c.new-link.ensures, c.new.ensures.begun) at c.in-Err.ensures.forwards in
     let moves = (Forwards-moves rules _ t _ over).2 in
@@ -47,16 +46,9 @@ returns-in-Err g c =
       read_room = moves.hands.room;
       write_room = moves.takes.went.capacity;
       encodes = record {
-        ran = stopped g.R.TellRead.remaining g.W.TellWrite.trace c.args.source c.args.target c.requires.empty
+        ran = stopped g.W.TellWrite.trace c.args.source c.args.target c.requires.empty
             c.requires.target.bytes t.filter _ _ _ over.answers c.of.ensures;
-        offers = Goes-offers g.R.TellRead.remaining g.W.TellWrite.trace _ t over.goes;
-        promptly = record {
-          prompt = Goes-holds rules _ t over.goes;
-          once = over.once;
-          reads = over.reads;
-          few = omega (arith, over.goes.few, one_flush c.in-Err.stopped.cause);
-          flushes = over.flushes;
-          per_ask = over.per_ask;
-        };
+        offers = Goes-offers g.W.TellWrite.trace _ t over.goes;
+        promptly = Forwards-runs rules _ t _ over;
       };
     })

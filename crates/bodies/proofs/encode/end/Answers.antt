@@ -1,5 +1,5 @@
 -- No payload is due, so the body's end is taken in whole, or nothing is; behind it the flush answers.
-use Rattle.bodies.proofs.EncodingCalls.{ends_badly, ends_not, ends_well}
+use Rattle.bodies.proofs.Ending.{ends_badly, ends_not, ends_well}
 use Rattle.bodies.proofs.encode.end.Goals as goal
 
 pub returns-in-Ok-flush : goal.returns-in-Ok-flush

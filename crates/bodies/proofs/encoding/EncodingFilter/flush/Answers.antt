@@ -4,5 +4,5 @@ use Rattle.bodies.proofs.encoding.EncodingFilter.flush.Goals as goal
 
 pub returns : goal.returns
 returns g c =
-    flushes_all g.R.TellRead.remaining g.W.Tell.log g.W.TellWrite.trace c.args.self.now c.requires c.flush.new.self
-    c.flush.ensures.went c.flush.ensures.whole c.flush.result c.flush.ensures.flushed
+    flushes_all g.W.Tell.log g.W.TellWrite.trace c.args.self.now c.requires c.flush.new.self
+    c.flush.ensures.went c.flush.result c.flush.ensures.flushed

@@ -1,9 +1,6 @@
 -- A chunk of what is buffered fits the writer's capacity, so some of it is taken in, and just that is consumed.
 use Rattle.std.proofs.Common.{ap, arith, ◌∙◌}
-use Rattle.std.proofs.lemmas.Bool.Decides.{nat_tests}
-use Rattle.std.proofs.lemmas.Result.{err_from_is_err_and}
-use Rattle.buffer_redux.specs.ReaderLaws.{ReaderConsumes-along}
-use Rattle.bodies.specs.Words.{std_read_rules}
+use Rattle.bodies.specs.Words.{nat_tests, err_from_is_err_and}
 use Rattle.bodies.proofs.EncodingCalls.{not_passed, passed}
 use Rattle.bodies.proofs.encoding.EncodingFilter.pass.Goals as goal
 
@@ -13,7 +10,7 @@ returns-in_err-count g c =
     let e = c.in_err-count.field-0.0 in
     let p = err_from_is_err_and c.from_residual.result c.from_residual.ensures.1 in
     rw (p.1, p.2)
-    (not_passed g.R.TellRead.remaining g.W.Tell.log g.W.TellWrite.trace s c.requires (grind (arith, nat_tests))
+    (not_passed g.W.Tell.log g.W.TellWrite.trace s c.requires (grind (arith, nat_tests))
     c.buffer.ensures.whole c.write.new.self e
     (rw c.buffer-2.ensures.value at c.in_err-count.ensures.writes))
 
@@ -21,10 +18,9 @@ pub returns : goal.returns
 returns g c =
     let s = c.args.self.now in
     let n = c.in_ok-count.count in
-    passed g.R.TellRead.remaining g.W.Tell.log g.W.TellWrite.trace s c.requires (grind (arith, nat_tests))
+    passed g.W.Tell.log g.W.TellWrite.trace s c.requires (grind (arith, nat_tests))
     c.buffer.ensures.whole c.write.new.self n
     (rw c.buffer-2.ensures.value at c.in_ok-count.ensures.bound)
     (rw c.buffer-2.ensures.value at c.in_ok-count.ensures.writes)
-    c.consume.new.self (ReaderConsumes-along g.R.TellRead.remaining std_read_rules s.source n c.consume.new.self
-    c.consume.ensures.inner c.consume.ensures.consumed) c.consume.ensures.consumed.told
+    c.consume.new.self c.consume.ensures.in_order c.consume.ensures.consumed.told
     (ap (λ b. b.capacity) c.consume.ensures.consumed.told_policy.allowed.1 ∙ c.consume.ensures.consumed.dropped.capacity)
