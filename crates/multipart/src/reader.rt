@@ -212,7 +212,8 @@ fn joined(alloc: Global, front: &[u8], tail: &[u8]) -> Option<Vec<u8>>
 
 impl<R: TellRead, P: ReaderPolicy> Multipart<R, P> {
     /// Hands out text of the part, at least a byte unless it ended or the slice is empty; and none where the reader stands in no
-    /// part. Behind the text a slice smaller than the buffer stays as it was. After a `Truncated` or an `Io` a further call goes on.
+    /// part. Behind the text a slice smaller than the buffer stays as it was. After a `Truncated` or an `Io` a further call goes
+    /// on.
     pub fn read(&mut self, out: &mut [u8]) -> Result<usize, BodyError<()>>
         ensures handed { IfOk result (λ n. (n ≤ length out.new)
             × (self.old.stand ≡ Stand.Part

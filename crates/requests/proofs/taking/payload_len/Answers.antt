@@ -155,7 +155,8 @@ module _ {R : Type 0} {remaining : R → Option (List ℕ)} {b m t : InBody R} {
               let handed : handed_of t.body ≡ handed_of m.body = goes.went.handed ∙ append-nil (handed_of m.body) in
               subst (λ c. (body_rules c).completes (body_rules c).first m.body.taken (handed_of m.body)) goes.went.coding
               (subst (λ l. (body_rules t.body.coding).completes (body_rules t.body.coding).first m.body.taken l) handed
-              (subst (λ l. (body_rules t.body.coding).completes (body_rules t.body.coding).first l (handed_of t.body)) taken ended))))
+              (subst (λ l. (body_rules t.body.coding).completes (body_rules t.body.coding).first l (handed_of t.body))
+              taken ended))))
           | x ∷ more ↦ λ some. inr (omega (
             arith,
             ap length goes.went.taken,
