@@ -1,12 +1,15 @@
 #!/usr/bin/env python3
 """Tries wrong edits, many in one check: the prover must refuse each.
 
-usage, at the top of the repository: python3 tests/edits.py [--after-ci SECONDS] [--anew] [--lanes N] [CRATE | EDIT ..]
+usage, at the top of the repository: python3 tests/edits.py [--after-ci SECONDS] [--anew] [--lanes N] [CRATE | CRATE/NAME ..]
 
-An edit stands in tests/edits/CRATE/, or in crates/CRATE/must-fail/, where `rt ci` tries it too. It is a file as that reads
-it, with a line `# fn: PATH` in front, which names the function whose proof it breaks, as `rt check` does below the crate. A line
-`# clause: NAME` behind it names the clause that refuses it, alone: answers for other clauses are left out, and a goal of this has
-to be left. One in tests/edits/CRATE/laws/ changes a definition, and no body: it breaks a law that this has to keep.
+The edits of crates/CRATE/src/reader.rt stand in tests/edits/CRATE/src/reader.edits, and so do those of a file of specs/, which
+change a definition, and no body: they break a law that this has to keep. Each begins with a line `edit: NAME`, and an empty line
+is between two. `fn: PATH` names the function whose proof it breaks, as `rt check` does below the crate, and `clause: NAME` the
+clause that refuses it, alone: answers for other clauses are left out, and a goal of this has to be left. `old: TEXT` and
+`new: TEXT` are a part of a line, which stands once in the file, and what stands there instead; a line `file: PATH` before them
+names another file. One in crates/CRATE/must-fail/, where `rt ci` tries it too, is a file as that reads it, in which the first
+lines are comments.
 
 A function is proved against the contracts of those that it calls. So edits of different functions stand in one check, and
 each has its verdict in the line of its own function: one that tells of goals of its own is a refusal. 'It calls X, which is
@@ -19,7 +22,7 @@ out/, and is not tried again while the edit, the crate, the libraries below it a
 With --after-ci it begins no check once checks took so many seconds of a processor, where each that goes on counts for a minute,
 leaves out what `rt ci` tries, and takes from `rt ci` that the crates are proved and the libraries below them built: a check
 then asks for the edited functions alone, and proves what they call. It leaves out crates above a library that isn't
-built, as where `rt ci` kept it from another checkout, and names them. It begins with the edits that have a line `# each time`,
+built, as where `rt ci` kept it from another checkout, and names them. It begins with the edits that have a line `each time`,
 however long these take, then come the crates that the last commits touched, and then the others in an order that changes with
 each commit.
 
@@ -51,7 +54,7 @@ KEPT = "kept: "
 # The parts of a function's line that tell of other functions.
 OTHERS = re.compile(r"(no proof: )?it (calls|passes|waits|uses) ")
 
-Edit = collections.namedtuple("Edit", "crate path fn pairs each_time clause")
+Edit = collections.namedtuple("Edit", "crate name fn pairs each_time clause")
 
 
 def kit_library():
@@ -69,23 +72,33 @@ def kit_library():
 
 
 def read(path):
-    """The edit of a file."""
-    lines = path.read_text(encoding="utf-8").split("\n")
-    fn, clause, file, old, pairs = "", "", "", "", []
+    """The edits of a file."""
+    text = path.read_text(encoding="utf-8").rstrip("\n")
+    if path.suffix == ".edit":
+        return [read_one(path.parent.parent.name, "", [f"edit: {path.stem}", *text.split("\n")])]
+    crate, part, *_ = path.relative_to(TOP / "tests/edits").parts
+    source = path.relative_to(TOP / "tests/edits" / crate).with_suffix(".rt" if part == "src" else ".antt")
+    return [read_one(crate, str(source), it.split("\n")) for it in text.split("\n\n")]
+
+
+def read_one(crate, file, lines):
+    """The edit of these lines, which is of that file where they name no other."""
+    name, fn, clause, old, pairs = "", "", "", "", []
     for line in lines:
-        key, _, value = line.partition(": " if not line.startswith("new:") else ":")
-        if key == "# fn":
-            fn = value.strip()
-        elif key == "# clause":
-            clause = value.strip()
+        key, _, value = line.removeprefix("# ").partition(": " if not line.startswith("new:") else ":")
+        if key == "edit":
+            name = value
+        elif key == "fn":
+            fn = value
+        elif key == "clause":
+            clause = value
         elif key == "file":
-            file = value.strip()
+            file = value
         elif key == "old":
             old = value
         elif key == "new":
             pairs.append((file, old, value.removeprefix(" ")))
-    crate = path.parent.parent.name if path.parent.name in ("must-fail", "laws") else path.parent.name
-    return Edit(crate, path, fn, tuple(pairs), "# each time" in lines, clause)
+    return Edit(crate, name, fn, tuple(pairs), "each time" in lines, clause)
 
 
 def applied(edits):
@@ -114,10 +127,10 @@ def applied(edits):
 
 
 def groups_of(edits):
-    """As few groups as there are edits of one function, each function once in each; and those without one, alone."""
+    """As few groups as there are edits of one function, each function once in each; and those that change a definition, alone."""
     by_fn = collections.defaultdict(list)
     for it in edits:
-        by_fn[it.fn or it.path].append(it)
+        by_fn[it if not it.fn or any(file.startswith("specs/") for file, _, _ in it.pairs) else it.fn].append(it)
     groups = [[] for _ in range(max((len(them) for fn, them in by_fn.items() if isinstance(fn, str)), default=0))]
     alone = []
     for fn, them in sorted(by_fn.items(), key=lambda it: -len(it[1])):
@@ -479,11 +492,10 @@ def main():
     parser.add_argument("--lanes", type=int, default=len(os.sched_getaffinity(0)))
     parser.add_argument("wanted", nargs="*")
     given = parser.parse_args()
-    folders = [*TOP.glob("tests/edits/**/*.edit")] + ([] if given.after_ci else [*TOP.glob("crates/*/must-fail/*.edit")])
+    files = [*TOP.glob("tests/edits/**/*.edits")] + ([] if given.after_ci else [*TOP.glob("crates/*/must-fail/*.edit")])
     edits = collections.defaultdict(list)
-    for it in sorted(folders):
-        edit = read(it)
-        if not given.wanted or {edit.crate, str(it), str(it.relative_to(TOP))} & {*given.wanted}:
+    for edit in (edit for it in sorted(files) for edit in read(it)):
+        if not given.wanted or {edit.crate, f"{edit.crate}/{edit.name}"} & {*given.wanted}:
             edits[edit.crate].append(edit)
     every, budget, counts = sum(map(len, edits.values())), Budget(given.after_ci), collections.Counter()
     # Its first call sets a signal's handler, which only the main thread may, and lanes build libraries.
@@ -492,10 +504,10 @@ def main():
     names, edits = in_turn(edits) if given.after_ci else ([it for it in crates if it in edits], edits)
 
     def tell(crate):
-        for edit, (well, why) in sorted(crate.found.items(), key=lambda it: it[0].path):
+        for edit, (well, why) in sorted(crate.found.items(), key=lambda it: it[0].name):
             counts["passed" if well else "told" if given.after_ci and why.startswith("BAD EDIT") else "failed"] += 1
             counts["kept"] += why.startswith(KEPT)
-            print(f"{edit.crate}/{edit.path.name}: {'refused, as it must be' if well else 'FAILED'}: {why[:200]}", flush=True)
+            print(f"{edit.crate}/{edit.name}: {'refused, as it must be' if well else 'FAILED'}: {why[:200]}", flush=True)
 
     # A library that `rt ci` keeps from another checkout isn't built in this one, so no edit above it can be tried here. One that it
     # builds has no stamp, as those of other commands have.
