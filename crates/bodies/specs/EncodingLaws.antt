@@ -3,8 +3,7 @@ use Rattle.std.proofs.Common.{◌≡◌, ◌≤◌, length, ℕ, inl, inr, List,
 use Rattle.forward.specs.Link.{Ask, Goes, Linked}
 use Rattle.bodies.specs.Words.{All-append, All-nil, concat-append, concat, flat_map, ReadsInOrder-joins, ReadsInOrder-none, ChunksWent-joins, ChunksWent-none, Goes-leaves, Buffered, StdPolicy, AsksSent, IsLawful, Moves, OffersBuffer, StaysOpen, AllSent, sent_all, taken_more, InputFault, chunk, Encoding}
 use Rattle.bodies.specs.Encoding.{HandsReads, encoding_rules}
-use Rattle.bodies.specs.Filters.{Asked}
-use Rattle.bodies.specs.Filters.{asked_after}
+use Rattle.bodies.specs.Filters.{Asked, asked_after}
 
 module _ {R : Type 0} where
   pub HandsReads-none : (s : Buffered R StdPolicy) → HandsReads s [] s

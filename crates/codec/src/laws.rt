@@ -1,5 +1,4 @@
-//! Laws, each as the contract of a function over the calls. What `since_new` says takes both the bytes that a reader handed
-//! out and those that it has left, so no fact of few words stands in front.
+//! Laws, each as the contract of a function over the calls.
 ghost use Rattle.std.specs.Prelude.{◌≡◌, ◌*◌, ◌^◌, ◌≤◌, ℕ, List, [], ◌∷◌, ◌++◌, IfErr, IfOk, IsOk, None, Ok, Option, Result};
 ghost use Rattle.std.specs.List.{flat_map};
 ghost use Rattle.buffer_redux.specs.Block.{Block};
@@ -44,6 +43,7 @@ pub fn one_reading<D: Decoder>(decoder: &D)
         → (payloads ≡ others) × (left ≡ left') }
 {}
 
+// No fact of few words stands in front: each takes both what was handed out and what is left.
 /// Since the reader was made, what was given is the bytes that were handed out, then what is left; and no more bytes were
 /// moved than were given.
 pub fn since_new<R: TellRead, D: Decoder>(reader: &PieceReader<R, D>)

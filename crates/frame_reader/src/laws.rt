@@ -1,5 +1,4 @@
-//! Laws, each as the contract of a function over the calls. What `since_new` says takes both the frames that a reader handed
-//! out and what it has left, so no fact of few words stands in front.
+//! Laws, each as the contract of a function over the calls.
 ghost use Rattle.std.specs.Prelude.{◌≡◌, ℕ, ◌+◌, ◌<◌, ◌^◌, List, [], ◌++◌, length};
 ghost use Rattle.buffer_redux.specs.BufWriter.{WritesInOrder};
 ghost use Rattle.buffer_redux.specs.Buffered.{Buffered};
@@ -39,6 +38,7 @@ pub fn one_reading(max: u16)
     let _ = max;
 }
 
+// No fact of few words stands in front: each takes both what was handed out and what is left.
 /// Since the reader was made, what was given is the frames that were handed out, then what is left; and no more bytes were
 /// moved than were given.
 pub fn since_new<R: TellRead>(reader: &FrameReader<R>)

@@ -1,5 +1,4 @@
-//! Laws, each as the contract of a function. What its grammars and exact relations come to in lists stands in front, but in
-//! `one_cut` and `no_byte_between`, which join whole grammars and whole calls: no fact of few words is as much.
+//! Laws, each as the contract of a function. What its grammars and exact relations come to in lists stands in front.
 ghost use Rattle.std.specs.Prelude.{◌≡◌, ℕ, ◌<◌, ◌≤◌, List, ◌∷◌, [], ◌++◌, length, false, IfErr, IfOk, Some};
 ghost use Rattle.buffer_redux.specs.Unbuffer.{Unbuffered, unbuffer_remaining};
 ghost use Rattle.codec.specs.declared.HeaderError.{HeaderError};
@@ -29,6 +28,7 @@ pub fn never_refused()
         → print_request (record h { minor = minor }) ≡ front ++ more → (why : HeaderError) → ¬ (texts.wrong front why) }
 {}
 
+// No fact of few words stands in front, here and in the next: they join whole grammars and whole calls.
 /// No message begins another: a text is cut into so many messages in one way.
 pub fn one_cut()
     ensures { (limits : Limits) (messages others : List Message) (text text' behind behind' : List ℕ)

@@ -2,7 +2,7 @@
 ghost use Rattle.std.specs.Prelude.{[], ◌≡◌, ◌≢◌, ◌<◌, ◌≤◌, ◌+◌, ◌⊎◌, ◌∷◌, ◌++◌, if◌then◌else◌, length, min, false, take, vec_items, Ok, IfErr, IfOk, IfSome, MatchBool, OnErr};
 ghost use Rattle.body_reader.specs.Between.{LeavesRest};
 ghost use Rattle.body_reader.specs.BodyReader.{ConsumesPayload, FillsPayload, IsBodyReader, ReadsPayload, TookWholeBody};
-ghost use Rattle.multipart.specs.Multipart.{AreCodings, GoesOnFromHead, HasHead, IsBegun, NextPart, PassesText, TurnsLast, codes};
+ghost use Rattle.multipart.specs.Multipart.{AreCodings, GoesOnFromHead, IsForm, IsBegun, NextPart, PassesText, TurnsLast, codes};
 
 use crate::error::{NewError, PartError};
 use crate::head::PartHead;
@@ -53,7 +53,7 @@ pub struct Multipart<R: Tell, P = StdPolicy> {
 
 impl<R: Tell, P> Model for Multipart<R, P> {
     ghost use Rattle.std.specs.Prelude.{vec_capacity};
-    ghost use Rattle.multipart.specs.Multipart.{FormState, HasHead};
+    ghost use Rattle.multipart.specs.Multipart.{FormState, IsForm};
 
     ghost Value = { FormState R P };
 
@@ -67,7 +67,7 @@ impl<R: Tell, P> Model for Multipart<R, P> {
       limits = m.limits;
     } };
 
-    ghost invariant = { λ m. HasHead m.stand (record {
+    ghost invariant = { λ m. IsForm m.stand (record {
       body = m.body;
       other = m.other;
       head = m.head.items;
@@ -89,7 +89,7 @@ impl<R: Tell, P> Multipart<R, P> {
     ) -> Result<Self, (BufReader<R, P>, NewError)>
         ensures over { IfOk result (λ m. (m.body.reader ≡ reader) × (m.body.taken ≡ []) × (m.head ≡ []) × (m.parts ≡ 0)) }
         ensures begun { IfOk result (IsBegun reader boundary.now limits) }
-        ensures whole { IfOk result (λ m. HasHead m.stand m) }
+        ensures whole { IfOk result (λ m. IsForm m.stand m) }
         ensures handed_back { IfErr result (λ e. e.0 ≡ reader) }
         ensures boundary { IfErr result (λ e. e.1 ≡ NewError.Boundary → (length boundary.now ≡ 0) ⊎ (70 < length boundary.now)) }
         ensures room { IfErr result (λ e. e.1 ≡ NewError.Room → reader.block.capacity < length boundary.now + 4) }
@@ -120,7 +120,7 @@ impl<R: Tell, P> Multipart<R, P> {
     pub fn get_ref(&self) -> &BufReader<R, P>
         ensures reader { result.now ≡ self.now.body.reader }
         ensures body { IsBodyReader (codes self.now.body.coding) self.now.body }
-        ensures whole { HasHead self.now.stand self.now }
+        ensures whole { IsForm self.now.stand self.now }
     {
         self.body.get_ref()
     }

@@ -24,7 +24,8 @@ drop_seam xs ys = drop_at xs ys (length xs) refl
 pub may_follow_early : (tail : List ℕ) (at : ℕ) (bytes : List ℕ) → length bytes ≤ at → ¬ (NeverFollows tail at bytes)
 may_follow_early tail at bytes early never =
     let fill : List ℕ = replicate (at - length bytes) 0 in
-    let long : length (bytes ++ fill) ≡ at = omega (arith, length-append bytes fill, length-replicate {A = ℕ} (at - length bytes) 0) in
+    let filled = length-replicate {A = ℕ} (at - length bytes) 0 in
+    let long : length (bytes ++ fill) ≡ at = omega (arith, length-append bytes fill, filled) in
     never (fill ++ tail) (
     ap (λ l. take (length tail) (drop at l)) (sym (append_assoc bytes fill tail))
     ∙ ap (take (length tail)) (drop_at (bytes ++ fill) tail at long)

@@ -8,8 +8,8 @@ use crate::header_error::HeaderError;
 use crate::length_prefixed::LengthPrefixed;
 
 /// The decoder of pieces that have a header. A length above the greatest is refused before anything is added to it. Once the
-/// header is there, it asks for the payload and the first byte of the tail, and then for one more at a time, and refuses the first
-/// that stands in no tail.
+/// header is there, it asks for the payload and the first byte of the tail, and then for one more at a time, and refuses the
+/// first that stands in no tail.
 #[derive(Clone, Copy, Debug, Drop)]
 pub struct ByHeader<H: LengthPrefixed>(pub H);
 

@@ -65,15 +65,17 @@ head_came {m = m} {b = b} limits going open' begun =
     ]) in
     omega (arith, asked.some, next.gave ends next.answers.0, ap (λ u. length u.log.reads.given) begun.stream)
 
--- what came by a read that was interrupted, where nothing was buffered: all that was taken
+-- by a read that was interrupted, where nothing was buffered before or behind it, just that came which was taken
 module _ {S : Type 0} {remaining : S → Option (List ℕ)} {m t : InBody S} {handed : List ℕ}
     (goes : InsideGoes remaining m handed t)
     (none : (stream_in m).left ≡ []) (empty : (stream_in t).left ≡ []) where
-  came_all : length (inside_went goes).order.got ≡ length goes.went.wire
-  came_all =
+  came_taken : length t.body.taken ≡ length m.body.taken + length (inside_went goes).order.got
+  came_taken =
       let order = (inside_went goes).order in
       omega (
         arith,
+        ap length goes.went.taken,
+        length-append m.body.taken goes.went.wire,
         ap length order.equal,
         length-append goes.went.wire (stream_in t).left,
         length-append (stream_in m).left order.got,
@@ -88,12 +90,10 @@ module _ {S : Type 0} {remaining : S → Option (List ℕ)} {m t : InBody S} {ha
           let order = (inside_went goes).order in
           omega (
             arith,
-            came_all,
+            came_taken,
             was,
             is,
             more,
-            ap length goes.went.taken,
-            length-append m.body.taken goes.went.wire,
             ap length order.given,
             length-append (stream_in m).log.reads.given order.got,
           )
@@ -102,14 +102,5 @@ module _ {S : Type 0} {remaining : S → Option (List ℕ)} {m t : InBody S} {ha
           → (stream_in t).log.reads.given ≡ (stream_in m).log.reads.given
       body_none few less =
           let order = (inside_went goes).order in
-          let no : order.got ≡ [] = nil_from_length order.got (omega (
-            arith,
-            came_all,
-            was,
-            is,
-            less,
-            few,
-            ap length goes.went.taken,
-            length-append m.body.taken goes.went.wire,
-          )) in
+          let no : order.got ≡ [] = nil_from_length order.got (omega (arith, came_taken, was, is, less, few)) in
           order.given ∙ ap (λ l. (stream_in m).log.reads.given ++ l) no ∙ append-nil (stream_in m).log.reads.given

@@ -163,7 +163,7 @@ fn read_on<R: TellRead, W: TellWrite>(
     }
 }
 
-// Reads payload that is buffered.
+// Reads payload that is buffered. Where nothing is, no look is made.
 fn read_shown<R: TellRead>(body: &mut Body<R>, out: &mut [u8]) -> usize
     requires whole { IsBodyReader (body_rules body.old.body.coding) body.old.body }
     ensures bound { result ≤ length out.new }

@@ -63,36 +63,31 @@ returns-in-Ok-next-clause-comes g c =
 pub returns-in-Ok-next-clause-room : goal.returns-in-Ok-next-clause-room
 returns-in-Ok-next-clause-room g c = c.in-Ok-next.ensures.next.room ∙ c.asks.invariant.room
 
--- whether bytes came of a head, by what is left
+-- bytes came of a head just where more is left
 module _ {R : Type 0} {remaining : R → Option (List ℕ)} {m t : ReaderState R Heads} {answer : NextAnswer BadHead}
     (next : NextPiece remaining (heads usual) m answer t) (none : next.bytes ≡ []) where
-  none_came : length (rest t) ≤ length (rest m) → t.reader.log.reads.given ≡ m.reader.log.reads.given
-  none_came less =
+  came_left : length (rest t) ≡ length (rest m) + length next.went.hands.got
+  came_left =
       let order = next.went.hands in
-      let no : order.got ≡ [] = nil_from_length order.got (omega (
+      omega (
         arith,
-        less,
         ap length order.equal,
         ap length none,
         length-append next.bytes (rest t),
         length-append (rest m) order.got,
-      )) in
+      )
+
+  none_came : length (rest t) ≤ length (rest m) → t.reader.log.reads.given ≡ m.reader.log.reads.given
+  none_came less =
+      let order = next.went.hands in
+      let no : order.got ≡ [] = nil_from_length order.got (omega (arith, less, came_left)) in
       order.given ∙ ap (λ l. m.reader.log.reads.given ++ l) no ∙ append-nil m.reader.log.reads.given
 
   some_came : length (rest m) < length (rest t)
       → length m.reader.log.reads.given < length t.reader.log.reads.given
   some_came more =
       let order = next.went.hands in
-      omega (
-        arith,
-        more,
-        ap length order.equal,
-        ap length none,
-        length-append next.bytes (rest t),
-        length-append (rest m) order.got,
-        ap length order.given,
-        length-append m.reader.log.reads.given order.got,
-      )
+      omega (arith, more, came_left, ap length order.given, length-append m.reader.log.reads.given order.got)
 
 -- what was asked for, and sent before that, till there was no head
 module _ {R W : Type 0} {remaining : R → Option (List ℕ)} {tells : W → StreamLog} {trace : W → W → Type 0}

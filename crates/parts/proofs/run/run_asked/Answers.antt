@@ -1,7 +1,7 @@
 -- The words say whose part is wanted, and the run begins at empty buffers.
 use Rattle.std.proofs.Common.{ap, inl, inr, refl, subst, sym, ◌∙◌}
 use Rattle.buffer_redux.specs.Block.{IsNew, Plain}
-use Rattle.multipart.specs.Multipart.{HasHead, IsBegun}
+use Rattle.multipart.specs.Multipart.{IsForm, IsBegun}
 use Rattle.parts.specs.Asked.{run_limits}
 use Rattle.parts.proofs.run.run_asked.Goals as goal
 
@@ -54,7 +54,7 @@ returns-in-Ok-new g c =
         s = parts;
         u = c.in-Ok.buffers.1;
         begun = subst (λ r. IsBegun r c.in-Some.boundary.now run_limits parts) (sym over) new.begun;
-        codings = subst (λ x. HasHead x parts) new.begun.stand new.whole;
+        codings = subst (λ x. IsForm x parts) new.begun.stand new.whole;
         source = subst (λ r. IsNew Plain 16384 r.block) (sym over) c.in-Ok.ensures.source;
         target = c.in-Ok.ensures.target;
         read_from = ap (λ r. r.log) over ∙ c.in-Ok.ensures.read;

@@ -6,18 +6,18 @@ use Rattle.std.proofs.lemmas.List.{nil_from_length}
 use Rattle.body_reader.specs.BodyReader.{Collects, TookWholeBody, handed_of, taken_count}
 use Rattle.multipart.specs.declared.reader.Stand.TheVariants.{Head, Part, Ended}
 use Rattle.multipart.specs.Head.{IsPartHead}
-use Rattle.multipart.specs.Multipart.{BeginsHead, FormState, GoesOnFromHead, HasHead, codes, head_most, hyphens, is_full, turned}
+use Rattle.multipart.specs.Multipart.{BeginsHead, FormState, GoesOnFromHead, IsForm, codes, head_most, hyphens, is_full, turned}
 use Rattle.multipart.proofs.reader.Multipart.go_on.Goals as goal
 
 module _ {S Q : Type 0} {remaining : _} {rules : _} {s now : FormState S Q} (same : s ≡ now) (stand : now.stand ≡ Head)
-    (form : HasHead s.stand s) {most : ℕ} (most_is : most ≡ head_most s) {answer : _} {b : _} {head : List ℕ}
+    (form : IsForm s.stand s) {most : ℕ} (most_is : most ≡ head_most s) {answer : _} {b : _} {head : List ℕ}
     (so : Collects remaining rules (codes s.body.coding) (IsPartHead s.other.until.delimiter) most s.body s.head answer b head)
     (room : ℕ) where
   at : s.stand ≡ Head
   at = ap (λ x. x.stand) same ∙ stand
 
   before : BeginsHead s
-  before = subst (λ x. HasHead x s) at form
+  before = subst (λ x. IsForm x s) at form
 
   abbrev d : FormState S Q
   d = record s { body = b; head = head; room = room }
@@ -30,8 +30,8 @@ module _ {S Q : Type 0} {remaining : _} {rules : _} {s now : FormState S Q} (sam
     few = grind (arith, most_is, so.few, before.few, ap length so.collected, length-append s.head so.payload);
   }
 
-  still : HasHead s.stand d
-  still = subst (λ x. HasHead x d) (sym at) is
+  still : IsForm s.stand d
+  still = subst (λ x. IsForm x d) (sym at) is
 
   module _ (ok : answer ≡ Ok tt) where
     whole : TookWholeBody (codes s.body.coding) b
@@ -52,7 +52,7 @@ module _ {S Q : Type 0} {remaining : _} {rules : _} {s now : FormState S Q} (sam
     ]
 
     ends : taken_count b ≡ 2
-        → GoesOnFromHead remaining rules now (Ok false) (record d { stand = Ended }) × HasHead Ended (record d { stand = Ended })
+        → GoesOnFromHead remaining rules now (Ok false) (record d { stand = Ended }) × IsForm Ended (record d { stand = Ended })
     ends two = (rw (← same) (d, (refl, rw (← ok, ← most_is) so, tt), (last (inr two), refl)), (is.codings, last (inr two)))
 
     module _ (long : taken_count b ≢ 2) where
@@ -62,7 +62,7 @@ module _ {S Q : Type 0} {remaining : _} {rules : _} {s now : FormState S Q} (sam
 
       goes : (s.parts < s.limits.parts)
           × GoesOnFromHead remaining rules now (Ok true) (turned (record d { parts = s.parts + 1 }) Part)
-          × HasHead Part (turned (record d { parts = s.parts + 1 }) Part)
+          × IsForm Part (turned (record d { parts = s.parts + 1 }) Part)
       goes = let less = leb-false s.limits.parts s.parts (free (is_full s) refl) in (
         less,
         rw (← same) (d, (refl, rw (← ok, ← most_is) so, tt), ((λ two. long (omega (arith, ap length two))), less, refl)),
