@@ -38,16 +38,16 @@ def end_of(text, start):
     raise ValueError(text[start : start + 60])
 
 
-def calls_of(text):
-    """The name of each public call that returns a `Result`, its return type and its clauses."""
+def contracts_of(text):
+    """The name of each public call, its return type and its clauses."""
     owned = [(at.start(), end_of(text, text.index("{", at.start()))) for at in re.finditer(r"^impl\b[^{;]* for [^{;]*\{", text, re.M)]
     # A bound between the name and the arguments may be `FnMut(u64)`.
     for at in re.finditer(r"^ *(pub )?(?:const )?fn (\w+)(?:<[^{;]*?>)?\(", text, re.M):
         if not at.group(1) and not any(begin < at.start() < end for begin, end in owned):
             continue
         rest = text[end_of(text, at.end() - 1) :]
-        returned = re.match(r"\s*->\s*(.*?)\s*(?=\b(?:where|requires|ensures|ghost)\b|\{|;)", rest, re.S)
-        if not returned or "Result<" not in returned.group(1):
+        returned = re.match(r"(?:\s*->\s*(.*?))?\s*(?=\b(?:where|requires|ensures|ghost)\b|\{|;)", rest, re.S)
+        if not returned:
             continue
         clauses, place = [], returned.end()
         part = re.compile(r"(?:\s|//[^\n]*\n)*(?:where[^{]*?)?\b(requires|ensures|ghost)\*? *(\w*)[^{]*")
@@ -55,18 +55,19 @@ def calls_of(text):
             if clause.group(1) == "ensures":
                 clauses.append(clause.group(2) or "ensures")
             place = end_of(rest, clause.end())
-        yield at.group(2), returned.group(1), clauses
+        yield at.group(2), returned.group(1) or "", clauses
 
 
 def public_calls():
-    """Of each file of the libraries the calls, of each name all."""
+    """Of each file of the libraries the calls that return a `Result`, of each name all."""
     found = {}
     for path in sorted(TOP.glob("crates/*/src/**/*.rt")):
         crate = path.relative_to(TOP).parts[1]
         if crate in LEFT_OUT or crate.startswith("tests_"):
             continue
-        for name, returned, clauses in calls_of(path.read_text(encoding="utf-8")):
-            found.setdefault((str(path.relative_to(TOP)), name), []).append((returned, clauses))
+        for name, returned, clauses in contracts_of(path.read_text(encoding="utf-8")):
+            if "Result<" in returned:
+                found.setdefault((str(path.relative_to(TOP)), name), []).append((returned, clauses))
     return found
 
 

@@ -27,8 +27,8 @@ however long these take, then come the crates that the last commits touched, and
 each commit.
 
 The last line is 'N passed, M failed'; the status is 0 only if each edit that was tried was refused. A BAD EDIT, which can't be
-applied or read, or breaks another function than it names, fails by hand; with --after-ci it is told and counts for nothing, as
-in `rt ci`.
+applied or read, breaks another function than it names, or takes away what a proof file names, fails by hand; with --after-ci it
+is told and counts for nothing, as in `rt ci`.
 """
 import argparse
 import collections
@@ -49,8 +49,9 @@ import threading
 TOP = pathlib.Path(__file__).resolve().parent.parent
 # What a proof file says where an edit took away what it names.
 NAMES = re.compile(r"(\./)?proofs/.*(has no field|is not in scope|has no `|was not admitted)")
-# What stands before a reason that an earlier run found.
+# What stands before a reason that an earlier run found, and before one that is no refusal by a contract.
 KEPT = "kept: "
+UNREAD = "BAD EDIT: only a proof file names what the edit took away: "
 # The parts of a function's line that tell of other functions.
 OTHERS = re.compile(r"(no proof: )?it (calls|passes|waits|uses) ")
 
@@ -227,26 +228,29 @@ def answers_of(clause, text):
 
 
 def told_of(edit, said):
-    """What is said of errors in the proof files of the edit's function: the file, the line, and the whole message."""
+    """What is said of errors in the proof files of the edit's function: the file, the line, the column, and the whole message."""
     # A message goes on in lines that begin with spaces.
     lines = re.sub(r"\n +", " ", said).split("\n")
-    found = [re.match(rf"(?:\./)?({re.escape(folder_of(edit))}\w+\.antt):(\d+):\d+: error", it) for it in lines]
-    return [(at[1], int(at[2]), line) for at, line in zip(found, lines) if at]
+    found = [re.match(rf"(?:\./)?({re.escape(folder_of(edit))}\w+\.antt):(\d+):(\d+): error", it) for it in lines]
+    return [(at[1], int(at[2]), int(at[3]), line) for at, line in zip(found, lines) if at]
 
 
-def goal_at(edit, file, line):
-    """The goal whose answer stands at that line, if one does."""
+def goal_at(edit, file, line, column):
+    """The goal whose answer stands there, if one does; of an answer with a field for each clause, that of the field."""
     text = (TOP / "crates" / edit.crate / file).read_text(encoding="utf-8")
-    above = (answers_of(edit.clause, text) if edit.clause and file.endswith("Answers.antt") else text).split("\n")[:line]
-    begun = next((it for it in reversed(above) if it and it[0] not in " -"), "")
-    goal = re.match(r"(?:pub )?(returns[\w-]*)", begun)
-    return goal[1] if goal else ""
+    lines = (answers_of(edit.clause, text) if edit.clause and file.endswith("Answers.antt") else text).split("\n")[:line]
+    begun = next((at for at in range(len(lines) - 1, -1, -1) if lines[at] and lines[at][0] not in " -"), None)
+    goal = re.match(r"(?:pub )?(returns[\w-]*)", lines[begun]) if begun is not None else None
+    if not goal or "clause-" in goal[1]:
+        return goal[1] if goal else ""
+    fields = re.findall(r"(?m)(?:[{;]|^)\s*(\w+) = ", "\n".join([*lines[begun:-1], lines[-1][: column - 1]]))
+    return f"{goal[1]}-clause-{fields[-1]}" if fields else goal[1]
 
 
 def left_of(edit, said):
     """The goals of the edit's function that are left: those that nothing proves, and those that an answer doesn't. Not those whose
     answer names what the edit took away."""
-    told = [(goal_at(edit, file, line), message) for file, line, message in told_of(edit, said)]
+    told = [(goal_at(edit, *at), message) for *at, message in told_of(edit, said)]
     unread = [goal for goal, message in told if NAMES.match(message)]
     left = re.findall(r"`(returns[\w-]*)`", lines_of(said).get(f"{edit.crate}::{edit.fn}", "")) + [goal for goal, _ in told]
     return [goal for goal in left if goal not in unread]
@@ -260,9 +264,9 @@ def refusal(edit, said):
         return None
     if edit.clause:
         return next((f"`{it}` is left" for it in left_of(edit, said) if is_of(edit.clause, it)), None)
-    told = [message for _, _, message in told_of(edit, said)]
+    told = [message for *_, message in told_of(edit, said)]
     if told and all(NAMES.match(it) for it in told) and not any("`search` did not prove" in it for it in own):
-        return f"only because a proof file names what the edit took away: {told[0]}"
+        return UNREAD + told[0]
     return next((it for it in told if not NAMES.match(it)), line)
 
 
@@ -369,7 +373,7 @@ class Crate:
         if ended(said) != "not-proved" or unread(said, texts):
             return {}
         found = {it: refusal(it, said) for it in asked}
-        return {it: (True, why) for it, why in found.items() if why}
+        return {it: (not why.startswith(UNREAD), why) for it, why in found.items() if why}
 
     def alone(self, copy, edit):
         """The verdict of one edit. Behind `rt ci` its function alone is asked for first, and the whole crate where that is proved."""
@@ -382,7 +386,7 @@ class Crate:
                 return False, f"BAD EDIT: it did not reach the prover: {unread(said, texts)}"
             why = refusal(edit, said) if edit.fn else unproved(said)
             if why and ended(said) != "proved":
-                return True, why
+                return not why.startswith(UNREAD), why
         if ended(said) == "proved":
             return False, "NOT REFUSED: the crate is still proved with this edit"
         return False, f"BAD EDIT: another function than {edit.fn} is refused, or another clause than {edit.clause or 'one of its own'}"
