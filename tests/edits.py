@@ -235,6 +235,21 @@ def told_of(edit, said):
     return [(at[1], int(at[2]), int(at[3]), line) for at, line in zip(found, lines) if at]
 
 
+def field_at(text):
+    """The field of an answer's own record that the text ends in, if it does: none of a record within it, or of a `let`."""
+    records, lets = [], 0
+    for it in re.finditer(r"(?<![\w.-])(let|in)(?![\w-])|[{}]|(?m:(?<=[{;])|^)\s*(\w+) = ", text):
+        if it[1]:
+            lets += 1 if it[1] == "let" else -1
+        elif it[0] == "{":
+            records.append((lets, ""))
+        elif it[0] == "}":
+            records = records[:-1]
+        elif records:
+            records[-1] = (records[-1][0], it[2])
+    return records[0][1] if records and records[0][0] == 0 else ""
+
+
 def goal_at(edit, file, line, column):
     """The goal whose answer stands there, if one does; of an answer with a field for each clause, that of the field."""
     text = (TOP / "crates" / edit.crate / file).read_text(encoding="utf-8")
@@ -243,8 +258,8 @@ def goal_at(edit, file, line, column):
     goal = re.match(r"(?:pub )?(returns[\w-]*)", lines[begun]) if begun is not None else None
     if not goal or "clause-" in goal[1]:
         return goal[1] if goal else ""
-    fields = re.findall(r"(?m)(?:[{;]|^)\s*(\w+) = ", "\n".join([*lines[begun:-1], lines[-1][: column - 1]]))
-    return f"{goal[1]}-clause-{fields[-1]}" if fields else goal[1]
+    field = field_at("\n".join([*lines[begun:-1], lines[-1][: column - 1]]))
+    return f"{goal[1]}-clause-{field}" if field else goal[1]
 
 
 def left_of(edit, said):

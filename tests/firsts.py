@@ -65,6 +65,8 @@ def main():
         why = left_out.get((file, call))
         if not is_shown and not why:
             wrong.append(f"no edit names `{clause}`, the first clause of `{call}` of {file}")
+        if is_shown and why:
+            wrong.append(f"an edit shows the first clause of `{call}` of {file}")
         if why == "(whole)" and not named:
             wrong.append(f"no edit breaks `{call}` of {file}")
     shown = sum(is_shown for *_, is_shown in firsts)
