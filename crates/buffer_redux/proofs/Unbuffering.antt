@@ -1,5 +1,5 @@
 -- What reads of an `Unbuffer` join to.
-use Rattle.std.proofs.Common.{◌≡◌, ◌∙◌, ℕ, ◌+◌, ◌*◌, ◌<◌, ◌≤◌, List, [], ◌∷◌, ◌++◌, length, min, take, drop, Result, Ok, Err, IfErr, OnOk, Option, ap, arith, inl, inr, length-append}
+use Rattle.std.proofs.Common.{◌≡◌, ◌∙◌, ℕ, ◌+◌, ◌*◌, ◌<◌, ◌≤◌, List, [], ◌∷◌, ◌++◌, length, min, take, drop, Result, Ok, Err, IfErr, OnOk, Option, ap, arith, inl, inr, length-append, subst, sym}
 use Rattle.std.specs.Prelude.{⊤}
 use Rattle.std.proofs.lemmas.Bool.{cases_lt}
 use Rattle.std.proofs.KnownBytes.{Consumes-nil, Consumes-kept}
@@ -8,7 +8,7 @@ use Rattle.std.specs.Io.KnownBytes.{Consumes, ReadConsumes}
 use Rattle.std.specs.declared.io.Error.{Error}
 use Rattle.std.specs.declared.io.ErrorKind.TheVariants.{UnexpectedEof}
 use Rattle.redux_buffer.specs.Faults.{IsInterrupt, failure_count, interrupt_limit}
-use Rattle.redux_buffer.specs.LogGrows.{ReadLogGrows}
+use Rattle.redux_buffer.specs.LogGrows.{ReadLogGrows, ReadLogGrows-none, ReadLogGrows-read}
 use Rattle.redux_buffer.specs.StreamLog.{portion, after_read, zero_of_none}
 use Rattle.buffer_redux.specs.AllBytes.{EndsBy}
 use Rattle.buffer_redux.specs.ReadExact.{ReaderStopped}
@@ -30,15 +30,23 @@ module _ {R : Type 0} (remaining : R → Option (List ℕ)) where
   pub unbuffer_read : (s : Unbuffered R) (was : List ℕ) (answer : Result ℕ Error) (slice : List ℕ) (t : Unbuffered R)
       → length slice ≡ length was → ReadsAtMost answer slice
       → ReadConsumes (unbuffer_remaining remaining s) (unbuffer_remaining remaining t) answer slice
-      → HandsOutInOrder s (portion slice answer) t → ReadLogGrows s.log.reads t.log.reads
+      → HandsOutInOrder s (portion slice answer) t
       → (0 < length s.left → (answer ≡ Ok (min (length s.left) (length was)))
       × (t ≡ record s { left = drop (length was) s.left }) × (drop (length s.left) slice ≡ drop (length s.left) was))
       → (length s.left ≡ 0 → (t.left ≡ []) × (t.log ≡ after_read s.log slice answer))
       → UnbufferReads remaining s was answer slice t
-  unbuffer_read s was answer slice t size bound bytes in_order grows left asked = record {
+  unbuffer_read s was answer slice t size bound bytes in_order left asked = record {
     bound = bound;
     size = size;
-    handed = record { order = in_order; known = known s t answer slice bytes; grows = grows };
+    handed = record {
+      order = in_order;
+      known = known s t answer slice bytes;
+      grows = elim (cases_lt 0 (length s.left)) [
+        | inl some ↦ subst (λ u. ReadLogGrows s.log.reads u.log.reads) (sym (left some).1) (ReadLogGrows-none s.log.reads)
+        | inr none ↦ subst (λ l. ReadLogGrows s.log.reads l.reads) (sym (asked (omega (arith, none))).1)
+          (ReadLogGrows-read s.log slice answer)
+      ];
+    };
     left = left;
     asked = asked;
   }

@@ -3,7 +3,6 @@ ghost use Rattle.std.specs.Prelude.{◌≡◌, ◌==◌, ℕ, ◌+◌, ◌*◌, 
 ghost use Rattle.std.specs.Io.{ReadsAtMost};
 ghost use Rattle.std.specs.Io.KnownBytes.{Consumes, ReadConsumes};
 ghost use Rattle.redux_buffer.specs.Faults.{IsInterrupt, failure_count, interrupt_limit};
-ghost use Rattle.redux_buffer.specs.LogGrows.{ReadLogGrows};
 ghost use Rattle.redux_buffer.specs.StreamLog.{portion, after_read};
 ghost use Rattle.buffer_redux.specs.ReadAll.{FillsSlice};
 ghost use Rattle.buffer_redux.specs.ReadExact.{ReaderStopped};
@@ -111,7 +110,6 @@ impl<R: TellRead> Read for Unbuffer<R> {
         ensures bytes { ReadConsumes (unbuffer_remaining R.remaining self.old)
             (unbuffer_remaining R.remaining self.new) result out.new }
         ensures in_order { HandsOutInOrder self.old (portion out.new result) self.new }
-        ensures grows { ReadLogGrows self.old.log.reads self.new.log.reads }
         ensures left { 0 < length self.old.left → (result ≡ Ok (min (length self.old.left) (length out.old)))
             × (self.new ≡ record self.old { left = drop (length out.old) self.old.left })
             × (drop (length self.old.left) out.new ≡ drop (length self.old.left) out.old) }

@@ -5,7 +5,6 @@ use Rattle.std.specs.Io.KnownBytes.{prepend_known, ReadConsumes}
 use Rattle.std.proofs.lemmas.Grind.{common_steps}
 use Rattle.std.proofs.lemmas.List.{take-append-drop, nil_from_length, drop_min}
 use Rattle.redux_buffer.specs.GivesRemaining.{GivesRemaining, GivesRemaining-none, GivesRemaining-ahead}
-use Rattle.redux_buffer.specs.LogGrows.{ReadLogGrows, ReadLogGrows-none}
 use Rattle.redux_buffer.specs.StreamLog.{StreamLog, portion}
 use Rattle.buffer_redux.specs.Unbuffer.{Unbuffered, HandsOutInOrder, bytes_in}
 use Rattle.buffer_redux.proofs.unbuffer.UnbufferRead.read.Goals as goal
@@ -25,7 +24,6 @@ record Handed {R : Type 0} (remaining : R → Option (List ℕ)) (s t : Unbuffer
   bytes : ReadConsumes {E = Error} (prepend_known s.left (remaining s.inner)) (prepend_known t.left (remaining t.inner))
       (Ok n) out
   some : 0 < length s.left
-  grows : ReadLogGrows s.log.reads t.log.reads
 
 handed : {R : Type 0} (remaining : R → Option (List ℕ)) (s t : Unbuffered R) (n : ℕ) (old out : List ℕ)
     → 0 < length s.left → n ≡ min (length s.left) (length old) → out ≡ take n s.left ++ drop n old
@@ -59,7 +57,6 @@ handed remaining s t n old out some count copied left inner told =
         λ none room. absurd (omega (arith, some, none, room, size, count)),
       );
       some = some;
-      grows = subst (λ l. ReadLogGrows s.log.reads l.reads) (sym told) (ReadLogGrows-none s.log.reads);
     }
 
 pub returns-in_default-clause-in_order : goal.returns-in_default-clause-in_order

@@ -25,8 +25,7 @@ fills g c =
     let r = c.read-answer.ensures in
     let remaining = g.R.TellRead.remaining in
     c.fill_on.ensures.fills c.args.self.now c.args.out.now (UnbufferHands-none remaining c.args.self.now)
-    (unbuffer_read remaining _ _ _ c.read-answer.new.out _ c.read-answer.auto.out r.bound r.bytes r.in_order r.grows r.left
-    r.asked)
+    (unbuffer_read remaining _ _ _ c.read-answer.new.out _ c.read-answer.auto.out r.bound r.bytes r.in_order r.left r.asked)
 
 pub returns-clause-in_order : goal.returns-clause-in_order
 returns-clause-in_order g c =
