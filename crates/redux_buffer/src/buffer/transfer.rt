@@ -118,6 +118,7 @@ impl<W: TellWrite> Attempt<W> for Offer<'_> {
 
     #[inline(always)]
     fn attempt(&self, wrt: &mut W) -> io::Result<usize>
+        ensures bound { WritesAtMost result self.now.bytes.now }
         ensures step { Offers W.log W.trace self.now.bytes.now wrt.old result wrt.new }
     {
         wrt.write_told(self.bytes)
