@@ -1,8 +1,7 @@
 -- What contracts see of a reader of pieces.
 use Rattle.std.specs.Prelude.{◌≡◌, ℕ, ◌+◌, ◌*◌, ◌<◌, ◌≤◌, ◌⊎◌, List, [], drop, take, length, max, Bool, true, false}
-use Rattle.buffer_redux.specs.Block.{Block, IsBlock, OnlyRingMoves, Plain, with_limit}
+use Rattle.buffer_redux.specs.Block.{Block, IsBlock, OnlyRingMoves, Plain, usable, with_limit}
 use Rattle.buffer_redux.specs.Buffered.{Buffered}
-use Rattle.buffer_redux.specs.Potential.{potential}
 use Rattle.buffer_redux.specs.StreamLog.{StreamLog}
 use Rattle.buffer_redux.specs.Unbuffer.{Unbuffered}
 use Rattle.buffer_redux.specs.declared.policy.MinBuffered.{MinBuffered}
@@ -49,7 +48,8 @@ pub record IsFresh {S D : Type 0} (tells : S → StreamLog) (least most : ℕ) (
   pub log : f.reader.log ≡ tells stream
   pub decoder : f.decoder ≡ finder
   pub ended : f.ended ≡ false
-  pub potential : potential most f.reader.block ≡ 0
+  pub moved : f.reader.block.moved ≡ 0
+  pub usable : usable f.reader.block ≡ f.reader.block.capacity
   pub capacity : f.reader.block.capacity ≡ room_for least most
 
 -- made over this buffer and stream: just what they have is left, and no byte was moved. A plain buffer in which three pieces fit

@@ -104,7 +104,7 @@ pub PiecesWent-moved : {S D : Type 0} (remaining : S → Option (List ℕ)) (tel
     (stream : S) (decoder : D) (s t : ReaderState S D) (bytes : List ℕ) → IsFresh tells least most stream decoder s
     → PiecesWent remaining most s bytes t → MovedAtMostGiven s.reader t.reader
 PiecesWent-moved remaining tells least most stream decoder s t bytes fresh went =
-    omega (arith, went.held.held, went.held.moved, fresh.potential)
+    omega (arith, went.held.held, went.held.moved, fresh.moved, fresh.usable)
 
 -- a reader that is made over what another one left has left what that had
 pub IsOver-left : {S D E : Type 0} (tells : S → StreamLog) (most : ℕ) (s : ReaderState S D) (stream : S) (buffer : Block)

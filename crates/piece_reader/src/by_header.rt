@@ -41,9 +41,9 @@ impl<H: LengthPrefixed> Decoder for ByHeader<H> {
     fn decode(&self, bytes: &[u8], seen: usize, note: &mut H::Note) -> Found<HeaderError>
         requires within { seen ≤ length bytes.now }
         requires noted { H.notes self.now.0 (take seen bytes.now) note.old }
-        ensures finds { Decodes (length_prefixed (H.header_format self.now.0)) bytes.now result }
-        ensures leaves { OnMore result (λ _. H.notes self.now.0 bytes.now note.new) }
         ensures looks { OnMore result (AsksPayload (H.header_format self.now.0) bytes.now) }
+        ensures leaves { OnMore result (λ _. H.notes self.now.0 bytes.now note.new) }
+        ensures finds { Decodes (length_prefixed (H.header_format self.now.0)) bytes.now result }
     {
         match self.0.header(bytes, seen, note) {
             Header::Short => Found::More(1 + bytes.len()),
