@@ -17,10 +17,18 @@ returns-in-Some g c =
     let found = c.lent.result.now in
     let next : NextLine remaining s (Ok (Some found)) t =
     NextLine-found remaining s t found
-    (subst (λ l. NextBufferedLine remaining s (Some l) t) (sym c.lent.ensures) c.in-Some.ensures.next) in (
+    (subst (λ l. NextBufferedLine remaining s (Some l) t) (sym c.lent.ensures) c.in-Some.ensures.next) in
+    let says = NextLine-says remaining s t (Ok (Some found)) whole next _ _ (NextLine-begins remaining s t found whole next)
+    (NextLine-fits remaining s t found next) in (
       (refl, (λ _. tt), next),
-      NextLine-says remaining s t (Ok (Some found)) whole next _ _ (NextLine-begins remaining s t found whole next)
-          (NextLine-fits remaining s t found next),
+      record {
+        begins = says.begins;
+        fits = says.fits;
+        ready = says.ready;
+        too_long = says.too_long;
+        ended = says.ended;
+        after_borrow = tt;
+      },
     )
 
 pub returns-in_err-span : goal.returns-in_err-span
