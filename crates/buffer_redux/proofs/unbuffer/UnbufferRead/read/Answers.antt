@@ -8,6 +8,7 @@ use Rattle.redux_buffer.specs.GivesRemaining.{GivesRemaining, GivesRemaining-non
 use Rattle.redux_buffer.specs.StreamLog.{StreamLog, portion}
 use Rattle.buffer_redux.specs.Unbuffer.{Unbuffered, HandsOutInOrder, bytes_in}
 use Rattle.buffer_redux.proofs.unbuffer.UnbufferRead.read.Goals as goal
+use Rattle.buffer_redux.proofs.unbuffer.UnbufferRead.read.Goals.{Joined-self-2, Else-is_empty}
 
 -- the parts of an `Unbuffer` are all of it
 same_parts : {R : Type 0} (s t : Unbuffered R) (left : List ℕ) → t.left ≡ left → t.inner ≡ s.inner → t.log ≡ s.log

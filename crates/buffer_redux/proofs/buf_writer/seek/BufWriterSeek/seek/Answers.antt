@@ -1,12 +1,13 @@
 -- Behind an Ok flush all is received and flushed, and just one seek was asked for: the flush makes none.
 use Rattle.std.proofs.Common.{◌≡◌, ℕ, List, [], ◌∷◌, ◌++◌, Result, Ok, Err, inl, inr, refl, sym, ap, ◌∙◌, rules}
-use Rattle.std.specs.Prelude.{IsErrAnd, MatchResult, OnOk, ◌⊎◌}
+use Rattle.std.specs.Prelude.{MatchResult}
 use Rattle.std.proofs.lemmas.Result.{err_from_is_err_and}
 use Rattle.std.specs.declared.io.Error.{Error}
 use Rattle.std.specs.declared.io.traits.SeekFrom.{SeekFrom}
 use Rattle.redux_buffer.specs.StreamLog.{StreamLog, SeekLog, Readies, SeekTells, after_flush}
 use Rattle.buffer_redux.specs.Buffered.{Buffered}
 use Rattle.buffer_redux.specs.BufWriter.{Flushes, IsFlushed}
+use Rattle.buffer_redux.proofs.LineSends.{on_ok}
 use Rattle.buffer_redux.proofs.buf_writer.seek.BufWriterSeek.seek.Goals as goal
 
 -- a flush makes no seek
@@ -16,20 +17,29 @@ flush_seeks : (sending answer : Result (Unit {0}) Error) (old sent new : StreamL
 flush_seeks (Ok _) answer old sent new same told = ap (λ l. l.seeks) told ∙ same
 flush_seeks (Err e) answer old sent new same told = ap (λ l. l.seeks) told.1 ∙ same
 
+-- behind an Ok flush a seek leaves all received and flushed
+keeps_all : (readies : Readies) (old new : StreamLog) (to : SeekFrom) (answer : Result ℕ Error) (received : List ℕ)
+    → SeekTells readies old to answer new → old.writes.received ≡ received → old.writes.flushed ≡ old.writes.received
+    → (new.writes.received ≡ received) × (new.writes.flushed ≡ new.writes.received)
+keeps_all readies old new to answer received tells got flushed =
+    let all : tells.flushed ≡ old.writes.received = elim tells.flushes [
+      | inl same ↦ same ∙ flushed
+      | inr all ↦ all
+    ] in
+    let same = ap (λ l. l.writes.received) tells.told in
+    (same ∙ got, ap (λ l. l.writes.flushed) tells.told ∙ all ∙ sym same)
+
 -- behind an Ok flush one seek was asked for, and gave this answer
 sought : {S P : Type 0} (readies : Readies) (s m t : Buffered S P) (to : SeekFrom) (answer : Result ℕ Error)
     → IsFlushed s m → Flushes s (Ok tt) m → t.block ≡ m.block → SeekTells readies m.log to answer t.log
     → IsFlushed s t × (t.log.seeks.calls ≡ s.log.seeks.calls ++ (to, answer) ∷ [])
 sought readies s m t to answer flushed steps block tells =
-    let all : tells.flushed ≡ m.log.writes.received = elim tells.flushes [
-      | inl same ↦ same ∙ flushed.flushed
-      | inr all ↦ all
-    ] in
+    let kept = keeps_all readies m.log t.log to answer _ tells flushed.received flushed.flushed in
     let asked : SeekLog → List (SeekFrom × Result ℕ Error) = λ log. log.calls ++ (to, answer) ∷ [] in (
       record {
         empty = ap (λ b. b.bytes) block ∙ flushed.empty;
-        received = ap (λ l. l.writes.received) tells.told ∙ flushed.received;
-        flushed = ap (λ l. l.writes.flushed) tells.told ∙ all ∙ ap (λ l. l.writes.received) (sym tells.told);
+        received = kept.0;
+        flushed = kept.1;
         met = record {
           interrupts = flushed.met.interrupts;
           only = record {
@@ -90,14 +100,9 @@ returns-clause-sought g c =
       whole = search rules;
     }
 
--- so at Ok all is received and flushed
-done : {S P : Type 0} (s t : Buffered S P) (X : Type 0) (Y : Error → Type 0) (answer : Result ℕ Error)
-    → ((IsFlushed s t × X) ⊎ IsErrAnd answer Y)
-    → OnOk answer ((t.block.bytes ≡ []) × (t.log.writes.received ≡ s.log.writes.received ++ s.block.bytes)
-    × (t.log.writes.flushed ≡ t.log.writes.received))
-done s t X Y (Ok n) (inl all) = (all.0.empty, all.0.received, all.0.flushed)
-done s t X Y (Ok n) (inr odd) = absurd odd
-done s t X Y (Err e) asked = tt
-
 pub returns-clause-all : goal.returns-clause-all
-returns-clause-all g c = done _ _ _ _ c.seek_told.result (returns-clause-sought g c).asked
+returns-clause-all g c =
+    let all = c.in_ok-flush.ensures.all in
+    let told = rw (ap (λ b. b.log) c.self.view_is) at c.seek_told.ensures.told in
+    let kept = keeps_all g.W.TellSeek.readies c.flush.new.self.log _ c.args.to c.seek_told.result _ told all.1 all.2 in
+    on_ok c.seek_told.result _ (ap (λ b. b.block.bytes) c.self.view_is ∙ all.0, kept.0, kept.1)
