@@ -19,7 +19,8 @@ use Rattle.multipart.specs.declared.error.PartError.TheVariants as part
 use Rattle.multipart.specs.declared.reader.Limits.{Limits}
 use Rattle.multipart.specs.declared.reader.Stand.{Stand}
 use Rattle.multipart.specs.declared.reader.Stand.TheVariants.{Preamble, Head, Part, Ended}
-use Rattle.multipart.specs.Head.{IsPartHead, crlf}
+use Rattle.multipart.specs.Head.{IsPartHead}
+use Rattle.part_fields.specs.Fields.{crlf}
 
 -- the section that is being read, of a text or a head; the coding of those that it takes turns with; the head that came last, and
 -- how many bytes there is room for; where the reader stands; and how many parts began

@@ -8,5 +8,5 @@ mod head;
 mod reader;
 
 pub use error::{NewError, PartError};
-pub use head::{field, parameter};
+pub use part_fields::{field, parameter};
 pub use reader::{Limits, Multipart, Stand};

@@ -18,10 +18,11 @@ use Rattle.buffer_redux.specs.Buffered.{Buffered}
 use Rattle.buffer_redux.specs.Policy.{std_read_rules, std_write_rules}
 use Rattle.buffer_redux.specs.StreamLog.{StreamLog}
 use Rattle.buffer_redux.specs.declared.policy.StdPolicy.{StdPolicy}
-use Rattle.multipart.specs.Head.{IsPartHead, field_of, parameter_of}
+use Rattle.multipart.specs.Head.{IsPartHead}
 use Rattle.multipart.specs.Multipart.{FormState, TurnsLast, codes, hyphens, is_full}
 use Rattle.multipart.specs.declared.reader.Limits.{Limits}
 use Rattle.multipart.specs.declared.reader.Stand.TheVariants.{Preamble, Part}
+use Rattle.part_fields.specs.Fields.{field_of, parameter_of}
 use Rattle.parts.specs.declared.error.RunError.{RunError}
 use Rattle.parts.specs.declared.error.RunError.TheVariants.{Body, Many, Missing, Parts, Write}
 

@@ -1,7 +1,7 @@
 -- What was trimmed is a function of the text.
 use Rattle.std.proofs.Common.{refl}
 use Rattle.std.proofs.lemmas.Str.Ascii.{trim_ascii_is}
-use Rattle.multipart.proofs.head.trimmed.Goals as goal
+use Rattle.part_fields.proofs.fields.trimmed.Goals as goal
 
 pub returns : goal.returns
 returns c = trim_ascii_is c.args.text.now c.trim_ascii.result.now _ refl c.trim_ascii.ensures.value
