@@ -69,11 +69,12 @@ pub record BeginsHead {S Q : Type 0} (d : FormState S Q) : Type 0 where
   pub few : length d.head ≤ head_most d
 
 -- what is true of a reader of parts that stands there: which coding is whose; and what the head is: all that came of one so far,
--- or a whole one in front of a text
+-- or a whole one in front of a text, which is no longer than one may be
 abbrev pub IsForm : {S Q : Type 0} → Stand → FormState S Q → Type 0
 IsForm Preamble d = AreCodings false d.body.coding d.other
 IsForm Head d = BeginsHead d
 IsForm Part d = AreCodings false d.body.coding d.other × ((bytes : List ℕ) × IsBody (codes d.other) bytes d.head)
+    × (length d.head ≤ d.limits.head)
 IsForm Ended d = AreCodings (is_full d) d.other d.body.coding × (d.body.taken ≡ hyphens)
 
 -- before the first byte of a body with this boundary

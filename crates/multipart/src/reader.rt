@@ -1,12 +1,12 @@
 //! The reader of parts.
-ghost use Rattle.std.specs.Prelude.{[], ◌≡◌, ◌≢◌, ◌<◌, ◌≤◌, ◌+◌, ◌⊎◌, ◌∷◌, ◌++◌, if◌then◌else◌, length, min, false, take, vec_items, Ok, IfErr, IfOk, IfSome, MatchBool, OnErr};
+ghost use Rattle.std.specs.Prelude.{[], ◌≡◌, ◌≢◌, ◌<◌, ◌≤◌, ◌+◌, ◌^◌, ◌⊎◌, ◌∷◌, ◌++◌, if◌then◌else◌, length, min, true, false, take, vec_items, Ok, IfErr, IfOk, IfSome, MatchBool, OnErr, OnOk};
 ghost use Rattle.body_reader.specs.Between.{LeavesRest};
 ghost use Rattle.body_reader.specs.BodyReader.{ConsumesPayload, FillsPayload, IsBodyReader, ReadsPayload, TookWholeBody};
-ghost use Rattle.multipart.specs.Multipart.{AreCodings, GoesOnFromHead, IsForm, IsBegun, NextPart, PassesText, TurnsLast, codes};
+ghost use Rattle.multipart.specs.Multipart.{AreCodings, CollectsHead, EndsHead, GoesOnFromHead, IsBegun, IsForm, NextPart, PassesText, TurnsLast, codes, head_most, hyphens, is_full};
 
 use crate::error::{NewError, PartError};
 use crate::head::PartHead;
-use body_reader::{BodyError, BodyReader, JustOrUntil, Until};
+use body_reader::{BodyError, BodyReader, CollectError, JustOrUntil, Until};
 use buffer_redux::BufReader;
 use buffer_redux::policy::{ReaderPolicy, StdPolicy};
 use buffer_redux::tell::{Tell, TellRead};
@@ -148,8 +148,9 @@ impl<R: Tell, P> Multipart<R, P> {
         self.stand
     }
 
-    /// The head of the part: what stands behind its boundary, up to the empty line. It begins with the end of the boundary's
-    /// line, and [`field`](crate::field) finds a field in it. Behind an `Err` it may be the beginning of one.
+    /// The head of the part, of no more than `limits.head` bytes: what stands behind its boundary, up to the empty line. It
+    /// begins with the end of the boundary's line, and [`field`](crate::field) finds a field in it. Behind an `Err` it may be the
+    /// beginning of one.
     pub fn head(&self) -> &[u8]
         ensures { result.now ≡ self.now.head }
     {
@@ -166,6 +167,20 @@ impl<R: Tell, P> Multipart<R, P> {
             Stand::Part => self.body.piece(),
             _ => &[],
         }
+    }
+
+    // Whether there may be no further part.
+    fn is_full(&self) -> bool
+        ensures { result ≡ is_full self.now }
+    {
+        self.limits.parts <= self.parts
+    }
+
+    // How many bytes a head may have.
+    fn head_most(&self) -> usize
+        ensures { result ≡ head_most self.now }
+    {
+        if self.is_full() { 0 } else { self.limits.head }
     }
 }
 
@@ -285,43 +300,65 @@ impl<R: TellRead, P: ReaderPolicy> Multipart<R, P> {
         requires text { (self.old.stand ≡ Stand.Preamble) ⊎ (self.old.stand ≡ Stand.Part) }
         ensures { PassesText R.remaining P.rules self.old result self.new }
     {
+        let full = self.is_full();
         self.body.drain()?;
-        turn_last(&mut self.other, self.parts >= self.limits.parts);
+        turn_last(&mut self.other, full);
         self.body.begin_next(&mut self.other);
         self.head.clear();
         self.stand = Stand::Head;
         self.go_on()
     }
 
-    // Collects the head while it may go on so: none, where there may be no further part. Goes on into the part behind it, or says
-    // that there is none.
+    // Goes on behind a boundary: into the part behind its head, or to the end.
     fn go_on(&mut self) -> Result<bool, PartError>
         requires head { self.old.stand ≡ Stand.Head }
         ensures { GoesOnFromHead R.remaining P.rules self.old result self.new }
     {
-        let full = self.parts >= self.limits.parts;
-        let most = head_most(full, self.limits);
+        match self.collect_head() {
+            Ok(()) => Ok(self.begin_part()),
+            Err(e) => Err(PartError::of_head(e, self.is_full())),
+        }
+    }
+
+    // Collects the head while it may go on so: none, where there may be no further part.
+    fn collect_head(&mut self) -> Result<(), CollectError<()>>
+        requires head { self.old.stand ≡ Stand.Head }
+        ensures collects { CollectsHead R.remaining P.rules self.old result self.new }
+        ensures whole { OnOk result (TookWholeBody (codes self.new.body.coding) self.new.body) }
+    {
+        let most = self.head_most();
         let may_be = PartHead { texts: &self.other };
-        match self.body.collect_while(&may_be, most, &mut self.head) {
-            Ok(()) => {}
-            Err(e) => return Err(PartError::of_head(e, full)),
-        }
-        if self.body.taken() == 2 {
+        self.body.collect_while(&may_be, most, &mut self.head)
+    }
+
+    // Whether a whole head is just two hyphens, as each is where there may be no further part.
+    fn is_last(&self) -> bool
+        requires head { self.now.stand ≡ Stand.Head }
+        requires whole { TookWholeBody (codes self.now.body.coding) self.now.body }
+        ensures last { result ≡ true → self.now.body.taken ≡ hyphens }
+        ensures other { result ≡ false → (self.now.body.taken ≢ hyphens) × (self.now.parts < self.now.limits.parts)
+            × (self.now.limits.parts < 2 ^ 64) }
+    {
+        self.parts >= self.limits.parts || self.body.taken() == 2
+    }
+
+    // Goes on into the part behind a whole head, if there is one.
+    fn begin_part(&mut self) -> bool
+        requires head { self.old.stand ≡ Stand.Head }
+        requires whole { TookWholeBody (codes self.old.body.coding) self.old.body }
+        ensures { EndsHead self.old result self.new }
+    {
+        if self.is_last() {
             self.stand = Stand::Ended;
-            return Ok(false);
+            return false;
         }
+        // Says that it has room for a look.
+        let _ = self.body.get_ref();
         self.body.begin_next(&mut self.other);
         self.parts += 1;
         self.stand = Stand::Part;
-        Ok(true)
+        true
     }
-}
-
-// How many bytes a head may have.
-fn head_most(full: bool, limits: Limits) -> usize
-    ensures { result ≡ (if full then 0 else limits.head) }
-{
-    if full { 0 } else { limits.head }
 }
 
 // Makes the coding of heads one in which two hyphens alone are a head, where there may be no further part: no other has the

@@ -15,7 +15,8 @@ pub returns : goal.returns
 returns g c =
     let next = c.begin_next.ensures in
     let goes = rw (next.begun, next.before, c.clear.ensures.items, c.clear.ensures.capacity) at c.go_on.ensures in
-    rw (← c.self.view_is) (inl (c.drain.new.self, c.turn_last.new.heads, c.in_ok-drain.ensures.drains, c.turn_last.ensures, goes))
+    let heads = rw (c.is_full-full.ensures, ← c.self.view_is) at c.turn_last.ensures in
+    rw (← c.self.view_is) (inl (c.drain.new.self, c.turn_last.new.heads, c.in_ok-drain.ensures.drains, heads, goes))
 
 pub invariant_of-self : goal.invariant_of-self
 invariant_of-self g c =
