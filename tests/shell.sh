@@ -518,7 +518,7 @@ get b n|--b\r\n\r\n\r\n$part--b--|||hello|0|1 1
 get b n|--b\r\n\r\nhello\r\n--b--||||6|1 0|no part has this name
 get b n|--b\r\nContent-Disposition: form-data; name="n"\r\n\r\nhe|||he|5|2 1|the input ends within the body
 END
-    refuses 'list BOUNDARY|get BOUNDARY NAME' list 'list b n' 'get b' 'get b n n' "list $(printf %071d 0)" "$no_text"
+    refuses 'list BOUNDARY|get BOUNDARY NAME' list 'list b n' 'get b' 'get b n n' "list $(printf %071d 0)" "list $(printf 'a\rb')" "$no_text"
     { printf -- '--b\r\nContent-Disposition: form-data; name="n"\r\n\r\n'; cat "$lines"; printf '\r\n--b--'; } > "$scratch/body"
     turns 'get b n' "$scratch/body" "$lines"
     faults 'get b n' "$scratch/body"

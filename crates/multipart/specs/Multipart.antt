@@ -1,5 +1,5 @@
 -- What contracts see of a reader of parts, and what its calls promise.
-use Rattle.std.specs.Prelude.{◌≡◌, ◌≢◌, ℕ, ◌+◌, ◌<◌, ◌≤◌, ◌⊎◌, List, [], ◌∷◌, length, Bool, true, false, if◌then◌else◌, nat_le, Option, Result, Ok, Err, IfErr}
+use Rattle.std.specs.Prelude.{◌≡◌, ◌≢◌, ℕ, ◌+◌, ◌<◌, ◌≤◌, ◌⊎◌, List, [], ◌∷◌, length, Bool, true, false, if◌then◌else◌, nat_le, Option, Result, Ok, Err, All, IfErr}
 use Rattle.std.specs.IoError.{error_kind}
 use Rattle.std.specs.declared.io.Error.{Error}
 use Rattle.std.specs.declared.io.ErrorKind.TheVariants.{InvalidData, OutOfMemory, UnexpectedEof}
@@ -77,11 +77,16 @@ IsForm Part d = AreCodings false d.body.coding d.other × ((bytes : List ℕ) ×
     × (length d.head ≤ d.limits.head)
 IsForm Ended d = AreCodings (is_full d) d.other d.body.coding × (d.body.taken ≡ hyphens)
 
+-- a boundary has 1 to 70 bytes, and none of them is a carriage return or a line feed
+pub record IsBoundary (boundary : List ℕ) : Type 0 where
+  pub some : 0 < length boundary
+  pub few : length boundary ≤ 70
+  pub one_line : All (λ byte. (byte ≢ 13) × (byte ≢ 10)) boundary
+
 -- before the first byte of a body with this boundary
 pub record IsBegun {S Q : Type 0} (reader : Buffered S Q) (boundary : List ℕ) (limits : Limits) (t : FormState S Q)
     : Type 0 where
-  pub some : 0 < length boundary
-  pub few : length boundary ≤ 70
+  pub right : IsBoundary boundary
   pub mark : t.body.coding.just.items ≡ 45 ∷ 45 ∷ boundary
   pub room : t.body.coding.room ≡ length boundary + 4
   pub body : t.body ≡ begun (codes t.body.coding) reader t.body.coding

@@ -90,7 +90,7 @@ impl From<PartError> for io::Error {
 /// Why no reader can be made.
 #[derive(Debug, Drop, Clone, Copy, PartialEq, Eq)]
 pub enum NewError {
-    /// A boundary has 1 to 70 bytes.
+    /// A boundary has 1 to 70 bytes, and none of them is a carriage return or a line feed.
     Boundary,
     /// The buffer has fewer bytes than a boundary and its line take: its own, and four.
     Room,
@@ -101,7 +101,7 @@ pub enum NewError {
 impl fmt::Display for NewError {
     fn fmt<W: fmt::Write>(&self, f: &mut fmt::Formatter<W>) -> fmt::Result {
         f.write_str(match self {
-            NewError::Boundary => "a boundary has 1 to 70 bytes",
+            NewError::Boundary => "a boundary has 1 to 70 bytes, and no line end",
             NewError::Room => "the buffer is smaller than a boundary",
             NewError::Memory => "memory was refused",
         })

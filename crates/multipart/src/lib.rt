@@ -9,4 +9,4 @@ mod reader;
 
 pub use error::{NewError, PartError};
 pub use part_fields::{field, parameter};
-pub use reader::{Limits, Multipart, Stand};
+pub use reader::{Limits, Multipart, Stand, is_boundary};

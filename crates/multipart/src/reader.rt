@@ -1,8 +1,8 @@
 //! The reader of parts.
-ghost use Rattle.std.specs.Prelude.{[], ◌≡◌, ◌≢◌, ◌<◌, ◌≤◌, ◌+◌, ◌^◌, ◌⊎◌, ◌∷◌, ◌++◌, if◌then◌else◌, length, min, true, false, take, vec_items, Ok, IfErr, IfOk, IfSome, MatchBool, OnErr, OnOk};
+ghost use Rattle.std.specs.Prelude.{[], ◌≡◌, ◌≢◌, ◌<◌, ◌≤◌, ◌+◌, ◌^◌, ◌⊎◌, ◌∷◌, ◌++◌, ◌↔◌, if◌then◌else◌, length, min, true, false, take, vec_items, Ok, IfErr, IfOk, IfSome, IsTrue, MatchBool, OnErr, OnOk};
 ghost use Rattle.body_reader.specs.Between.{LeavesRest};
 ghost use Rattle.body_reader.specs.BodyReader.{ConsumesPayload, FillsPayload, IsBodyReader, ReadsPayload, TookWholeBody};
-ghost use Rattle.multipart.specs.Multipart.{AreCodings, CollectsHead, EndsHead, GoesOnFromHead, IsBegun, IsForm, NextPart, PassesText, TurnsLast, codes, head_most, hyphens, is_full};
+ghost use Rattle.multipart.specs.Multipart.{AreCodings, CollectsHead, EndsHead, GoesOnFromHead, IsBegun, IsBoundary, IsForm, NextPart, PassesText, TurnsLast, codes, head_most, hyphens, is_full};
 
 use crate::error::{NewError, PartError};
 use crate::head::PartHead;
@@ -78,9 +78,17 @@ impl<R: Tell, P> Model for Multipart<R, P> {
     }) };
 }
 
+/// Whether this may be a boundary: it has 1 to 70 bytes, and none of them is a carriage return or a line feed.
+pub fn is_boundary(bytes: &[u8]) -> bool
+    ensures { IsTrue result ↔ IsBoundary bytes.now }
+{
+    !bytes.is_empty() && bytes.len() <= 70 && !bytes.contains(&b'\r') && !bytes.contains(&b'\n')
+}
+
 impl<R: Tell, P> Multipart<R, P> {
-    /// A reader of a body with this boundary, that comes next of `reader`. Its buffer needs four bytes more than the boundary has
-    /// (`Room`), and a boundary 1 to 70 bytes (`Boundary`). An `Err` hands the reader back.
+    /// A reader of a body with this boundary, that comes next of `reader`. A boundary has 1 to 70 bytes, and none of them is a
+    /// carriage return or a line feed (`Boundary`); the buffer needs four bytes more than it has (`Room`). An `Err` hands the
+    /// reader back.
     pub fn new(
         alloc: Global,
         reader: BufReader<R, P>,
@@ -91,12 +99,13 @@ impl<R: Tell, P> Multipart<R, P> {
         ensures begun { IfOk result (IsBegun reader boundary.now limits) }
         ensures whole { IfOk result (λ m. IsForm m.stand m) }
         ensures handed_back { IfErr result (λ e. e.0 ≡ reader) }
-        ensures boundary { IfErr result (λ e. e.1 ≡ NewError.Boundary → (length boundary.now ≡ 0) ⊎ (70 < length boundary.now)) }
-        ensures room { IfErr result (λ e. e.1 ≡ NewError.Room → reader.block.capacity < length boundary.now + 4) }
-        ensures memory { IfErr result (λ e. e.1 ≡ NewError.Memory → (0 < length boundary.now) × (length boundary.now ≤ 70)
+        ensures boundary { IfErr result (λ e. e.1 ≡ NewError.Boundary → ¬ IsBoundary boundary.now) }
+        ensures room { IfErr result (λ e. e.1 ≡ NewError.Room → IsBoundary boundary.now
+            × (reader.block.capacity < length boundary.now + 4)) }
+        ensures memory { IfErr result (λ e. e.1 ≡ NewError.Memory → IsBoundary boundary.now
             × (length boundary.now + 4 ≤ reader.block.capacity)) }
     {
-        if boundary.is_empty() || boundary.len() > 70 {
+        if !is_boundary(boundary) {
             return Err((reader, NewError::Boundary));
         }
         let room = boundary.len() + 4;

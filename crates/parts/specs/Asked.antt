@@ -1,5 +1,5 @@
 -- What a run does that words ask for.
-use Rattle.std.specs.Prelude.{◌≡◌, ◌<◌, ◌≤◌, ◌+◌, ◌⊎◌, ℕ, List, [], ◌∷◌, ◌++◌, codes as text_codes, length, false, Option, None, Some, Result, Err, OnOk, MatchResult}
+use Rattle.std.specs.Prelude.{◌≡◌, ◌≤◌, ◌+◌, ◌⊎◌, ℕ, List, [], ◌∷◌, ◌++◌, codes as text_codes, false, Option, None, Some, Result, Err, OnOk, MatchResult}
 use Rattle.std.specs.declared.io.Error.{Error}
 use Rattle.redux_buffer.specs.Faults.{MetInterrupts}
 use Rattle.body_reader.specs.Coding.{IsBody}
@@ -9,7 +9,7 @@ use Rattle.buffer_redux.specs.BufWriter.{WasFlushed}
 use Rattle.buffer_redux.specs.Buffered.{Buffered}
 use Rattle.buffer_redux.specs.StreamLog.{StreamLog}
 use Rattle.buffer_redux.specs.declared.policy.StdPolicy.{StdPolicy}
-use Rattle.multipart.specs.Multipart.{AreCodings, FormState, IsBegun, codes, hyphens}
+use Rattle.multipart.specs.Multipart.{AreCodings, FormState, IsBegun, IsBoundary, codes, hyphens}
 use Rattle.multipart.specs.declared.reader.Limits.{Limits}
 use Rattle.programs.specs.Streams.{ReceivedFlushed}
 use Rattle.parts.specs.Ending.{EndsAs}
@@ -27,11 +27,6 @@ list_words boundary = text_codes "list" ∷ boundary ∷ []
 
 abbrev pub get_words : List ℕ → List ℕ → List (List ℕ)
 get_words boundary name = text_codes "get" ∷ boundary ∷ name ∷ []
-
--- a boundary has 1 to 70 bytes
-pub record IsBoundary (boundary : List ℕ) : Type 0 where
-  pub some : 0 < length boundary
-  pub few : length boundary ≤ 70
 
 -- these words are neither
 pub record NoneAsked (words : List (List ℕ)) : Type 0 where

@@ -1,7 +1,8 @@
 //! A run as words ask for it, over any two streams that tell.
 ghost use Rattle.std.specs.Prelude.{◌≡◌, ◌↔◌, [], IfSome, IsTrue, None, codes, map, string_bytes};
 ghost use Rattle.std.specs.Option.{option_copied};
-ghost use Rattle.parts.specs.Asked.{Asks, DidSo, FlushedUnless, IsBoundary, NoneAsked, RunAnswers, RunDid, WasEnded};
+ghost use Rattle.multipart.specs.Multipart.{IsBoundary};
+ghost use Rattle.parts.specs.Asked.{Asks, DidSo, FlushedUnless, NoneAsked, RunAnswers, RunDid, WasEnded};
 
 use crate::ending::{InputFault, outcome_of};
 use crate::error::RunError;
@@ -80,11 +81,11 @@ fn asked(words: &[String]) -> Option<(&[u8], Option<&[u8]>)>
     }
 }
 
-// Whether a word is a boundary: it has 1 to 70 bytes.
+// Whether a word is a boundary.
 fn is_boundary(word: &str) -> bool
     ensures { IsTrue result ↔ IsBoundary word.now }
 {
-    !word.is_empty() && word.len() <= 70
+    multipart::is_boundary(word.as_bytes())
 }
 
 // Lists these parts, or writes the text of the first of this name. Both streams come back.

@@ -307,8 +307,10 @@ fn is_refused(alloc: Global, inner: BufReader<Source>, boundary: &[u8], why: New
 
 #[test]
 fn refuses_to_begin(rt: HostRuntime) -> Result<(), Fail> {
-    let rows: [(&[u8], usize, NewError); 2] = [
+    let rows: [(&[u8], usize, NewError); 4] = [
         (b"", 100, NewError::Boundary),
+        (b"a\rb", 100, NewError::Boundary),
+        (b"a\nb", 100, NewError::Boundary),
         (b"0123456789", 13, NewError::Room),
     ];
     for (boundary, capacity, why) in rows {
