@@ -7,7 +7,6 @@ below the call's file, as `call, call: (why)`:
 
 - `(types)`: types leave no other value, as of what `get_ref` lends;
 - `(ghost)`: contracts alone see the value, so no body makes another;
-- `(whole)`: one answer proves all its clauses, so a refusal names none; an edit breaks the call;
 - `(std)`: the clause is one of std's, about what nobody knows here.
 
 What is no library, a program or an example, is left out, and so are texts (`fmt`).
@@ -20,7 +19,7 @@ from causes import TOP, contracts_of, rows_of
 from edits import read
 
 TABLE = TOP / "tests" / "firsts.txt"
-REASONS = ("(types)", "(ghost)", "(whole)", "(std)")
+REASONS = ("(types)", "(ghost)", "(std)")
 # The groups of crates.txt that are libraries, by the first words of their headings.
 LIBRARIES = ("# The port", "# Layers")
 
@@ -43,7 +42,7 @@ def edited(crate):
 
 
 def first_clauses():
-    """Each public call with a contract, with its first clause, those that its edits name, and whether one shows the first."""
+    """Each public call with a contract, with its first clause, and whether an edit shows that."""
     for crate in libraries():
         shown = edited(crate)
         for path in sorted(TOP.glob(f"crates/{crate}/src/**/*.rt")):
@@ -51,7 +50,7 @@ def first_clauses():
             for name, _, clauses in contracts_of(path.read_text(encoding="utf-8")):
                 if clauses and name != "fmt":
                     named = shown.get((file, name), set())
-                    yield file, name, clauses[0], named, clauses[0] in named or (len(clauses) == 1 and bool(named))
+                    yield file, name, clauses[0], clauses[0] in named or (len(clauses) == 1 and bool(named))
 
 
 def main():
@@ -61,14 +60,12 @@ def main():
     calls = {(file, call) for file, call, *_ in firsts}
     wrong = [f"{number}: {file} has no public call `{call}` with a contract" for number, file, call, _ in rows if (file, call) not in calls]
     wrong += [f"{number}: `{why}` is no reason" for number, _, _, why in rows if why not in REASONS]
-    for file, call, clause, named, is_shown in firsts:
+    for file, call, clause, is_shown in firsts:
         why = left_out.get((file, call))
         if not is_shown and not why:
             wrong.append(f"no edit names `{clause}`, the first clause of `{call}` of {file}")
         if is_shown and why:
             wrong.append(f"an edit shows the first clause of `{call}` of {file}")
-        if why == "(whole)" and not named:
-            wrong.append(f"no edit breaks `{call}` of {file}")
     shown = sum(is_shown for *_, is_shown in firsts)
     said = f"an edit shows {shown} of {len(firsts)} first clauses, and tests/{TABLE.name} says why none shows the others"
     print("\n".join(f"tests/{TABLE.name}: {it}" for it in wrong) or said)
