@@ -1,9 +1,9 @@
 -- Payload is buffered, and how that ends.
-use Rattle.std.proofs.Common.{◌≡◌, ℕ, zero, suc, ◌+◌, ◌<◌, ◌≤◌, List, [], ◌++◌, length, min, take, Option, Result, Ok, Err, sym, ap, subst, ◌∙◌, arith, inl, inr, refl, append_assoc, append-nil, length-append}
+use Rattle.std.proofs.Common.{◌≡◌, ℕ, ◌+◌, ◌<◌, ◌≤◌, List, [], ◌++◌, length, min, take, Option, Result, Ok, Err, sym, ap, subst, ◌∙◌, arith, inl, inr, append_assoc, append-nil, length-append}
 use Rattle.std.proofs.lemmas.Bool.{cases_lt}
 use Rattle.std.proofs.lemmas.List.{length-take-le}
 use Rattle.std.specs.declared.io.Error.{Error}
-use Rattle.buffer_redux.specs.Block.{Block, IsBlock, Kind, OnKind, Plain, Ring, usable}
+use Rattle.buffer_redux.specs.Block.{Block, IsBlock, Kind, OnKind, usable}
 use Rattle.buffer_redux.specs.Buffered.{Buffered}
 use Rattle.buffer_redux.specs.BufReader.{ReadsInOrder, ReadsIntoBuf}
 use Rattle.buffer_redux.specs.Peek.{ReadsAhead}
@@ -22,12 +22,7 @@ use Rattle.body_reader.proofs.Once.{once_dry, once_fails, once_way}
 -- fewer bytes are payload too, also where more are shown
 pub Carries-less : {P W : Type 0} (g : Grammar P W) (p : P) (sure n : ℕ) (shown got : List ℕ) → Carries g p sure shown → 0 < n
     → n ≤ sure → Carries g p n (shown ++ got)
-Carries-less g p sure n shown got carries some few = record {
-  some = some;
-  goes_on = carries.goes_on;
-  carries = λ bytes follow more long same. carries.carries bytes follow (got ++ more) (omega (arith, long, few))
-      (same ∙ append_assoc shown got more);
-}
+Carries-less g p sure n shown got carries some few = grind (arith, append_assoc)
 
 pub Carries-fewer : {P W : Type 0} (g : Grammar P W) (p : P) (sure n : ℕ) (shown : List ℕ) → Carries g p sure shown → 0 < n
     → n ≤ sure → Carries g p n shown
@@ -45,8 +40,7 @@ one_ahead remaining rules m answer t room ahead =
 -- an empty buffer has room for as many bytes as it holds
 room_so : (k : Kind) (b : Block) → OnKind k (length b.bytes ≡ 0 → usable b ≡ b.capacity) (length b.bytes + usable b ≡ b.capacity)
     → length b.bytes ≡ 0 → usable b ≡ b.capacity
-room_so Plain b space none = space none
-room_so Ring b space none = omega (arith, space, none)
+room_so k b space none = grind arith
 
 pub room_of_empty : (b : Block) → IsBlock b → length b.bytes ≡ 0 → usable b ≡ b.capacity
 room_of_empty b is none = room_so b.kind b is.space none
@@ -56,17 +50,14 @@ module _ {S Q P W : Type 0} (remaining : S → Option (List ℕ)) (rules : ReadR
   pub Proceeds-of : {A : Type 0} (slice : ℕ) (s : Buffered S Q) (p : Progress P) (handed : List ℕ)
       (answer : Result A (BodyError W)) (M N : A → Type 0) (t : Buffered S Q) (q : Progress P) → ((a : A) → M a → N a)
       → Proceeds remaining rules g slice s p handed answer M t q → Proceeds remaining rules g slice s p handed answer N t q
-  Proceeds-of slice s p handed (Ok a) M N t q so goes = (goes.0, (goes.1.0, so a goes.1.1))
-  Proceeds-of slice s p handed (Err e) M N t q so goes = goes
+  Proceeds-of slice s p handed answer M N t q so goes = grind arith
 
   pub ended_here : (p : P) (shown : List ℕ) → Settles remaining rules g p shown 0 → IsDone g p
-  ended_here p shown (inl done) = done.1
-  ended_here p shown (inr more) = absurd (omega (arith, more.0.some))
+  ended_here p shown settles = grind arith
 
   pub payload_here : (p : P) (shown : List ℕ) (sure : ℕ) → 0 < sure → Settles remaining rules g p shown sure
       → Looks g p shown (Payload sure)
-  payload_here p shown sure more (inl none) = absurd (omega (arith, none.0, more))
-  payload_here p shown sure more (inr looks) = looks
+  payload_here p shown sure more settles = grind arith
 
   -- all that is buffered is shown, or all that surely is payload
   pub all_shown : (p : P) (shown : List ℕ) (sure n : ℕ) → IsNextPayload g p sure shown → n ≡ min sure (length shown)
@@ -80,8 +71,7 @@ module _ {S Q P W : Type 0} (remaining : S → Option (List ℕ)) (rules : ReadR
   -- where payload comes next some is known
   pub show_some : (slice : ℕ) (s : Buffered S Q) (p : Progress P) (sure : ℕ) → Carries g p.place sure s.block.bytes
       → (t : Buffered S Q) (n : ℕ) → ShowsOn remaining rules g slice s p (Ok n) t p → 0 < n
-  show_some slice s p sure carries t zero shows = absurd (carries.goes_on (shows.1.1.1 refl))
-  show_some slice s p sure carries t (suc n) shows = omega arith
+  show_some slice s p sure carries t n shows = grind arith
 
   -- payload is buffered
   pub show_held : (slice : ℕ) (s : Buffered S Q) (p : Progress P) → g.is_place p.place → (sure : ℕ)
@@ -199,14 +189,4 @@ module _ {S Q P W : Type 0} (remaining : S → Option (List ℕ)) (rules : ReadR
   -- the body ended
   pub fill_ended : (slice : ℕ) (s : Buffered S Q) (p : Progress P) (m : Buffered S Q) (q : Progress P)
       → SkipsOn remaining rules g slice s p (Ok 0) m q → ShowsOn remaining rules g slice s p (Ok 0) m q
-  fill_ended slice s p m q skips = (
-    skips.0,
-    (
-      skips.1.0,
-      (
-        (omega arith, λ some. absurd (omega (arith, some))),
-        (λ _. ended_here q.place m.block.bytes skips.1.1),
-        (λ some. absurd (omega (arith, some))),
-      ),
-    ),
-  )
+  fill_ended slice s p m q skips = (skips.0, grind (arith, ended_here))

@@ -1,6 +1,5 @@
 -- Payload is handed out, and how that ends.
-use Rattle.std.proofs.Common.{◌≡◌, ◌==◌, ◌+◌, false, ℕ, zero, suc, ◌-◌, ◌<◌, ◌≤◌, ◌⊎◌, List, [], ◌++◌, length, min, take, drop, Option, Some, Result, Ok, Err, IfOk, sym, ap, subst, ◌∙◌, arith, inl, inr, refl, append_assoc, append-nil, length-append}
-use Rattle.std.proofs.lemmas.Bool.{cases_lt}
+use Rattle.std.proofs.Common.{◌≡◌, ◌==◌, ◌+◌, false, ℕ, ◌-◌, ◌<◌, ◌≤◌, ◌⊎◌, List, [], ◌++◌, length, min, take, drop, Option, Some, Result, Ok, Err, IfOk, sym, ap, subst, ◌∙◌, arith, inl, inr, refl, append_assoc, append-nil, length-append}
 use Rattle.std.proofs.lemmas.List.{append_cancel_left, length-drop, length-take-le, take-append-drop}
 use Rattle.buffer_redux.specs.Buffered.{Buffered}
 use Rattle.buffer_redux.specs.BufReader.{ReaderConsumes, ReaderKeeps}
@@ -16,8 +15,7 @@ use Rattle.body_reader.proofs.Filling.{Proceeds-of, ended_here}
 use Rattle.body_reader.proofs.Skipping.{Notes, consumes_left, consumes_parts, consumes_through, takes_front}
 
 pub some_of : (n : ℕ) → false ≡ (n == 0) → 0 < n
-some_of zero odd = cc
-some_of (suc n) is = omega arith
+some_of n is = grind arith
 
 -- the first of bytes that are surely payload are payload
 pub front_carries : {P W : Type 0} (g : Grammar P W) (p : P) (k n : ℕ) (bytes : List ℕ) → Carries g p k bytes → n ≤ k
@@ -133,10 +131,7 @@ module _ {S Q P W : Type 0} (remaining : S → Option (List ℕ)) (rules : ReadR
       (taken : TakesFront remaining rules g n s p k t q k') (known : IsKnown g p.place k s.block.bytes) (some : 0 < k)
       (is : n ≡ min k (length out)) (room : 0 < length out) (same : take n out ≡ take n s.block.bytes) where
     full : (n ≡ length out) ⊎ (k' ≡ 0)
-    full = elim (cases_lt n (length out)) [
-      | inl short ↦ inr (omega (arith, is, short, taken.left))
-      | inr all ↦ inl (omega (arith, is, all))
-    ]
+    full = grind arith
 
     long : length (take n out) ≡ n
     long = length-take-le n out (omega (arith, is))
@@ -181,28 +176,13 @@ module _ {S Q P W : Type 0} (remaining : S → Option (List ℕ)) (rules : ReadR
   -- into an empty slice nothing is
   pub hands_nothing : (known : ℕ) (s : Buffered S Q) (p : Progress P) (out : List ℕ) → g.is_place p.place → length out ≡ 0
       → HandsOn remaining rules g known s p out (Ok 0) s p known
-  hands_nothing known s p out place none = (
-    (
-      Way-none place,
-      (
-        EachGave-none s,
-        (
-          omega arith,
-          (λ _ some. absurd (omega (arith, some, none))),
-          inl (omega (arith, none)),
-          (λ _ some. absurd (omega (arith, some))),
-        ),
-      ),
-    ),
-    λ _. (refl, refl, refl, refl),
-  )
+  hands_nothing known s p out place none = ((Way-none place, grind (arith, EachGave-none)), λ _. (refl, refl, refl, refl))
 
   -- no more is handed out than fits
   pub hands_bound : {before after : ℕ} {s t : Buffered S Q} {p q : Progress P} (out : List ℕ)
       (answer : Result ℕ (BodyError W))
       → HandsOn remaining rules g before s p out answer t q after → IfOk answer (λ n. n ≤ length out)
-  hands_bound out (Ok n) hands = hands.0.1.1.0
-  hands_bound out (Err e) hands = tt
+  hands_bound out answer hands = grind arith
 
   -- behind what is no payload, which failed, or came to the end
   module _ (known after : ℕ) (s : Buffered S Q) (p : Progress P) (out : List ℕ) (m : Buffered S Q) (q : Progress P)
@@ -245,18 +225,4 @@ module _ {S Q P W : Type 0} (remaining : S → Option (List ℕ)) (rules : ReadR
 
     pub hands_ended : after ≡ 0 → SkipsOn remaining rules g (length out) s p (Ok 0) m q
         → HandsOn remaining rules g known s p out (Ok 0) m q after
-    hands_ended unknown skips = (
-      (
-        skips.0,
-        (
-          skips.1.0,
-          (
-            omega arith,
-            (λ _ _. ended_here remaining rules g q.place m.block.bytes skips.1.1),
-            inr unknown,
-            (λ _ some. absurd (omega (arith, some))),
-          ),
-        ),
-      ),
-      never,
-    )
+    hands_ended unknown skips = ((skips.0, grind (arith, ended_here)), never)

@@ -2,7 +2,6 @@
 use Rattle.std.proofs.Common.{◌≡◌, ℕ, ◌<◌, ◌≤◌, List, [], ◌++◌, length, min, take, drop, Option, Result, Ok, Err, sym, ap, subst, ◌∙◌, arith, inl, inr, append-nil, length-append, length-drop}
 use Rattle.std.proofs.lemmas.List.{length-take-le, nil_from_length, take-append-le}
 use Rattle.std.specs.declared.io.Error.{Error}
-use Rattle.buffer_redux.specs.Block.{OnlyRingMoves}
 use Rattle.buffer_redux.specs.BlockLaws.{OnlyRingMoves-none}
 use Rattle.buffer_redux.specs.Buffered.{Buffered, GoesDirect, GoesPast}
 use Rattle.buffer_redux.specs.BufReader.{ReaderKeeps, ReadsAlong, ReadsInOrder}
@@ -38,24 +37,14 @@ module _ {S Q P W : Type 0} (remaining : S → Option (List ℕ)) (rules : ReadR
     Went answer = GoesPast s.block (length (take most slice)) → GoesDirect after_read s lent answer t
 
     went : (answer : Result ℕ Error) → Went answer → GoesDirect after_read s lent answer t
-    went answer goes = goes (subst (GoesPast s.block) (sym (length-take-le most slice fits)) past)
+    went answer goes = grind (arith, length-take-le)
 
     buffer_kept : t.block ≡ s.block → KeepsBuffer rules g.ahead s t
-    buffer_kept same = record {
-      kind = keeps.kind;
-      room = λ _. (ap (λ b. b.capacity) same, ap (λ b. b.limit) same);
-      still = λ _ _. subst (OnlyRingMoves s.block) (sym same) (OnlyRingMoves-none s.block);
-      unmoved = λ _ _ _. omega (arith, ap (λ b. b.moved) same);
-      spared = λ keep high claims. keeps.sparing keep claims;
-      noted = keeps.noted;
-    }
+    buffer_kept same = grind (arith, OnlyRingMoves-none)
 
     pub past_carries : (n : ℕ) → n ≤ length lent → Went (Ok n) → ReadsInOrder s (take n lent) t
         → g.carries p.place (take n out) t.block.bytes
-    past_carries n within goes order =
-        subst (λ l. g.carries p.place l t.block.bytes) (sym (take-append-le n lent (drop most slice) within))
-        (carries.carries (take n lent) t.block.bytes order.got
-        (omega (arith, within, long, length-take-le n lent within)) order.equal)
+    past_carries n within goes order = grind (arith, take-append-le, length-take-le)
 
     module _ (offers : min (length slice) (g.sure p.place) ≤ most) (known : ℕ) (unknown : known ≡ 0) where
       room : length out ≡ length slice
@@ -65,13 +54,7 @@ module _ {S Q P W : Type 0} (remaining : S → Option (List ℕ)) (rules : ReadR
       offered = omega (arith, offers, room, long)
 
       still : t.block ≡ s.block → ReadsInOrder s [] t → TakesBytes remaining rules g s p [] [] t p
-      still same order = record {
-        along = ReaderKeeps-along remaining rules s [] t order keeps;
-        leads = Leads-none g p.place (heeded g t.block.bytes);
-        taken = sym (append-nil p.taken.log.fills.consumed);
-        place = place;
-        keeps = buffer_kept same;
-      }
+      still same order = grind (arith, ReaderKeeps-along, Leads-none, append-nil, buffer_kept)
 
       some : 0 < length out
       some = omega (arith, carries.some, room, fits)

@@ -1,5 +1,5 @@
 -- What a call of a reader of a body comes to, seen by contracts.
-use Rattle.std.proofs.Common.{◌≡◌, ℕ, zero, suc, ◌-◌, ◌<◌, ◌≤◌, ◌⊎◌, List, [], ◌++◌, length, min, take, Option, Result, IfOk, MatchResult, Ok, Err, sym, ap, subst, ◌∙◌, inl, inr, refl, arith, append-nil, length-append}
+use Rattle.std.proofs.Common.{◌≡◌, ℕ, ◌-◌, ◌<◌, ◌≤◌, ◌⊎◌, List, [], ◌++◌, length, min, take, Option, Result, IfOk, MatchResult, Ok, Err, sym, ap, subst, ◌∙◌, inl, inr, refl, arith, append-nil, length-append}
 use Rattle.buffer_redux.specs.Buffered.{Buffered}
 use Rattle.buffer_redux.specs.BufReader.{ReaderConsumes}
 use Rattle.buffer_redux.specs.Policy.{ReadRules}
@@ -17,13 +17,11 @@ use Rattle.body_reader.specs.CodingLaws.{Leads-done, Leads-left, Leads-then, Lea
 -- the payload that a call handed out is noted
 given_after : {W : Type 0} (calls : StreamLog) (out : List ℕ) (answer : Result ℕ (BodyError W)) (later : StreamLog)
     → NotedIfOk calls out answer later → later.reads.given ≡ calls.reads.given ++ handed_out out answer
-given_after calls out (Ok n) later noted = ap (λ l. l.reads.given) noted
-given_after calls out (Err e) later noted = ap (λ l. l.reads.given) noted ∙ sym (append-nil calls.reads.given)
+given_after calls out answer later noted = grind (arith, append-nil)
 
 -- in a place where a body ended none is known
 none_there : {P W : Type 0} (g : Grammar P W) (j : ℕ) (x : P) (bytes : List ℕ) → IsKnown g x j bytes → IsDone g x → j ≡ 0
-none_there g zero x bytes known done = refl
-none_there g (suc j) x bytes known done = absurd ((known.1 (omega arith)).goes_on done)
+none_there j x bytes known done = grind arith
 
 module _ {S Q C P W : Type 0} {remaining : S → Option (List ℕ)} {rules : ReadRules Q} {g : Grammar P W}
     {r : Buffered S Q} {c : C} {p : Progress P} {calls : StreamLog} {k : ℕ} {r' : Buffered S Q} {q : Progress P}
@@ -124,24 +122,14 @@ module _ {S Q C P W : Type 0} (remaining : S → Option (List ℕ)) (rules : Rea
   knows_told (Err e) ends none = tt
 
   full_handed : (a : Result ℕ (BodyError W)) → Ends a → IfOk a (λ n. (n ≡ length out) ⊎ (k' ≡ 0))
-  full_handed (Ok n) ends = ends.1.2
-  full_handed (Err e) ends = tt
+  full_handed a ends = grind arith
 
   nothing_done : (r' ≡ r) × (q ≡ p) × (k' ≡ k) → after ≡ record (seen r c p calls k) { calls = calls' }
   nothing_done (reader, place, few) = cc
 
   idle : (TookWholeBody g (seen r c p calls k) ⊎ (length out ≡ 0))
       → after ≡ record (seen r c p calls k) { calls = calls' }
-  idle (inl whole) =
-      let done = Leads-done g lawful _ _ _ _ is.leads is.place whole in
-      let at = hands.0.0.idle done in
-      nothing_done (
-        at.0,
-        at.1,
-        none_there g k' q.place r'.block.bytes known (subst (λ x. IsDone g x.place) (sym at.1) done)
-            ∙ sym (none_there g k p.place r.block.bytes is.known done),
-      )
-  idle (inr none) = let at = hands.1 none in nothing_done (at.1, at.2, at.3)
+  idle either = grind (arith, Leads-done, none_there)
 
   pub payload_read : ReadsPayload remaining rules g (seen r c p calls k) out answer after
   unfolding state_went
@@ -149,7 +137,7 @@ module _ {S Q C P W : Type 0} (remaining : S → Option (List ℕ)) (rules : Rea
     went = state_went hands.0.0.takes given;
     answers = answered answer hands.0.1;
     asked = hands.0.0.asked;
-    through = elim hands.0.0.through [ inl all ↦ inl all | inr past ↦ inr past.1 ];
+    through = grind arith;
     full = full_handed answer hands.0.1;
     left = left;
     knows = knows_told answer hands.0.1;

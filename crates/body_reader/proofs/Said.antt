@@ -1,6 +1,5 @@
 -- What a call says first, in words of lists.
-use Rattle.std.proofs.Common.{◌≡◌, ℕ, ◌≤◌, List, [], ◌++◌, length, min, Option, Result, Ok, Err, OnOk, inl, inr, sym, ap, ◌∙◌, arith, append-nil, length-append}
-use Rattle.std.proofs.lemmas.Bool.{cases_lt}
+use Rattle.std.proofs.Common.{◌≡◌, ℕ, ◌≤◌, List, [], ◌++◌, length, min, Option, Result, OnOk, sym, ap, ◌∙◌, arith, append-nil, length-append}
 use Rattle.std.proofs.lemmas.List.{nil_from_length}
 use Rattle.buffer_redux.specs.BufReader.{ReadsInOrder}
 use Rattle.buffer_redux.specs.Policy.{ReadRules}
@@ -22,13 +21,7 @@ module _ {S Q C P W : Type 0} {remaining : S → Option (List ℕ)} {rules : Rea
       let same : given ≡ given ++ order.got = sym (ap (λ l. l.reads.given) reads.told) ∙ order.given in
       let none : order.got ≡ [] = nil_from_length order.got (omega (arith, ap length same, length-append given order.got)) in
       record {
-        least = elim reads.full [
-          | inl all ↦ omega (arith, all)
-          | inr none ↦ elim (cases_lt handed s.known) [
-            | inl less ↦ absurd (omega (arith, less, none, reads.left (omega (arith, less))))
-            | inr more ↦ omega (arith, more)
-          ]
-        ];
+        least = grind arith;
         taken = (
           reads.went.wire,
           order.equal ∙ ap (λ l. s.reader.block.bytes ++ l) none ∙ append-nil s.reader.block.bytes,
@@ -42,13 +35,4 @@ module _ {S Q C P W : Type 0} {remaining : S → Option (List ℕ)} {rules : Rea
     in_order : (wire : List ℕ) × ReadsInOrder s.reader wire t.reader × (t.taken ≡ s.taken ++ wire);
     drains : Drains remaining rules g s answer t;
   }
-  drain_says (Ok _) drains = record {
-    ended = drains.answers.1;
-    in_order = (drains.takes.went.wire, drains.takes.went.along.in_order, drains.takes.went.taken);
-    drains = drains;
-  }
-  drain_says (Err e) drains = record {
-    ended = tt;
-    in_order = (drains.takes.went.wire, drains.takes.went.along.in_order, drains.takes.went.taken);
-    drains = drains;
-  }
+  drain_says answer drains = grind arith

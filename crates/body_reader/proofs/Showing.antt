@@ -38,20 +38,13 @@ rest_kept was out rest handed n within is same =
     ∙ drop-drop n handed was
 
 zero_unless : (n : ℕ) → ¬ (0 < n) → n ≡ 0
-zero_unless zero none = refl
-zero_unless (suc n) none = absurd (none (omega arith))
+zero_unless n none = grind arith
 
 module _ {S Q P W : Type 0} (remaining : S → Option (List ℕ)) (rules : ReadRules Q) (g : Grammar P W) where
   -- some is known
   pub known_found : (s : Buffered S Q) (p : Progress P) (k : ℕ) → g.is_place p.place → IsKnown g p.place k s.block.bytes → 0 < k
       → FindsKnown remaining rules g s p k None s p k
-  known_found s p k place known some = record {
-    passes = passed_none remaining rules g s p place;
-    known = known;
-    kept = λ _. (refl, refl);
-    all = λ unknown. absurd (omega (arith, unknown, some));
-    none = some;
-  }
+  known_found s p k place known some = search (rules, passed_none, arith)
 
   module _ (s : Buffered S Q) (p : Progress P) (before : ℕ) (unknown : before ≡ 0) (l : Look P W) (t : Buffered S Q)
       (q : Progress P) (passes : PassesOn remaining rules g s p t q) (next : LooksNext g q.place t.block.bytes l) where
@@ -81,13 +74,7 @@ module _ {S Q P W : Type 0} (remaining : S → Option (List ℕ)) (rules : ReadR
 
     pub none_found : IsLawful g → ((n : ℕ) → l ≡ look.Payload n → length t.block.bytes < 1) → (k : ℕ) → k ≡ 0
         → FindsKnown remaining rules g s p before (Some l) t q k
-    none_found lawful empty k none = record {
-      passes = passes;
-      known = (omega (arith, none), λ some. absurd (omega (arith, some, none)));
-      kept = λ some. absurd (omega (arith, some, unknown));
-      all = λ _ some. absurd (omega (arith, some, none));
-      none = (unknown, none, next, none_so lawful l next empty);
-    }
+    none_found lawful empty k none = grind (arith, none_so)
 
   -- so much was handed out so far
   pub record Shown (s : Buffered S Q) (p : Progress P) (before : ℕ) (out : List ℕ) (handed : ℕ) (m : Buffered S Q)
@@ -176,23 +163,14 @@ module _ {S Q P W : Type 0} (remaining : S → Option (List ℕ)) (rules : ReadR
         known = finds.known;
         left = λ few. omega (arith, so.left few, nothing, none);
         consumed = λ _ enough. absurd (omega (arith, room, enough, so.left (omega (arith, room, enough)), nothing));
-        idle = λ either. elim either [
-          | inl done ↦
-              let first = so.idle (inl done) in
-              let then = finds.passes.idle (subst (λ x. IsDone g x.place) (sym first.2) done) in
-              (first.0, then.0 ∙ first.1, then.1 ∙ first.2, omega (arith, none, nothing, first.3))
-          | inr empty ↦ absurd (omega (arith, room, empty))
-        ];
+        idle = λ either. grind arith;
         full = inr none;
         all = inr there;
       }
 
       -- where the body ended none is found
       goes_on : 0 < k' → ¬ IsDone g p.place
-      goes_on some done =
-          let first = so.idle (inl done) in
-          let here = subst (λ x. IsDone g x.place) (sym first.2) done in
-          (finds.known.1 some).goes_on (subst (λ x. IsDone g x.place) (sym (finds.passes.idle here).1) here)
+      goes_on some done = grind arith
 
       -- the policy is told of it once
       piece : (n : ℕ) (t : Buffered S Q) (u : Progress P) (k'' : ℕ) → 0 < n → n ≤ k'

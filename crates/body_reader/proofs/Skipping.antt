@@ -2,7 +2,6 @@
 use Rattle.std.proofs.Common.{◌≡◌, ℕ, ◌<◌, ◌≤◌, List, [], ◌++◌, length, min, take, drop, Option, Result, Ok, Err, sym, ap, subst, ◌∙◌, arith, inl, inr, refl, length-append}
 use Rattle.std.proofs.lemmas.List.{length-drop, length-take, length-take-le, take-append-drop}
 use Rattle.std.specs.declared.io.Error.{Error}
-use Rattle.buffer_redux.specs.Block.{OnKind}
 use Rattle.buffer_redux.specs.Buffered.{Buffered}
 use Rattle.buffer_redux.specs.BufReader.{ReaderConsumes, ReaderKeeps}
 use Rattle.buffer_redux.specs.Peek.{ReadsAhead}
@@ -32,22 +31,7 @@ consumes_left rules n s t held gone =
 
 pub consumes_keeps : {S Q : Type 0} (remaining : S → Option (List ℕ)) (rules : ReadRules Q) (least n : ℕ) (s t : Buffered S Q)
     → ReaderConsumes rules n s t → ReaderKeeps remaining rules s t → KeepsBuffer rules least s t
-consumes_keeps remaining rules least n s t gone keeps = record {
-  kind = keeps.kind;
-  room = λ leaves.
-      let same = leaves s.policy gone.left (min n (length s.block.bytes)) t.policy t.block gone.told_policy.allowed in
-      (same.0 ∙ gone.dropped.capacity, same.1 ∙ gone.dropped.limit);
-  still = λ leaves _.
-      let same = leaves s.policy gone.left (min n (length s.block.bytes)) t.policy t.block gone.told_policy.allowed in
-      subst (λ k. OnKind s.block.kind (k ≡ s.block.moved) (s.block.moved ≤ k)) (sym same) gone.moved;
-  unmoved = λ leaves _ plain. omega (
-    arith,
-    leaves s.policy gone.left (min n (length s.block.bytes)) t.policy t.block gone.told_policy.allowed,
-    of_plain s.block.kind (gone.left.moved ≡ s.block.moved) (s.block.moved ≤ gone.left.moved) plain gone.moved,
-  );
-  spared = λ keep high claims. keeps.sparing keep claims;
-  noted = keeps.noted;
-}
+consumes_keeps remaining rules least n s t gone keeps = grind (arith, of_plain)
 
 pub consumes_parts : {S Q : Type 0} (rules : ReadRules Q) (n : ℕ) (s t : Buffered S Q) → n ≤ length s.block.bytes
     → ReaderConsumes rules n s t → take n s.block.bytes ++ t.block.bytes ≡ s.block.bytes
@@ -57,13 +41,7 @@ consumes_parts rules n s t held gone =
 -- through the buffer
 pub consumes_through : {S Q : Type 0} (rules : ReadRules Q) (n : ℕ) (s t : Buffered S Q) → n ≤ length s.block.bytes
     → ReaderConsumes rules n s t → TakenThrough s (take n s.block.bytes) t
-consumes_through rules n s t held gone = omega (
-  arith,
-  held,
-  gone.told_policy.law.consumed,
-  gone.dropped.consumed,
-  length-take-le n s.block.bytes held,
-)
+consumes_through rules n s t held gone = grind (arith, length-take-le)
 
 -- bytes that lead on are taken
 module _ {S Q P W : Type 0} (remaining : S → Option (List ℕ)) (rules : ReadRules Q) (g : Grammar P W) (n : ℕ)

@@ -37,30 +37,16 @@ module _ {P V R X : Type 0} (g : Grammar P V) (h : Grammar R X) (at : P → R) (
     -- in one place
     module _ (r : R) (p : P) (shown : List ℕ) (like : Alike r p shown) where
       more_alike : (more : List ℕ) → Alike r p (shown ++ more)
-      more_alike more = record {
-        there = λ rest payload agree c. like.there rest payload (Agree-less shown more rest agree) c;
-        back = λ rest payload agree c. like.back rest payload (Agree-less shown more rest agree) c;
-        carried = λ bytes follow later same c.
-            like.carried bytes follow (more ++ later) (same ∙ append_assoc shown more later) c;
-        clear = like.clear;
-        between = like.between;
-        sure = like.sure;
-        named = like.named;
-        wrong = like.wrong;
-      }
+      more_alike more = grind (arith, Agree-less, append_assoc)
 
       goes_on : ¬ IsDone g p → ¬ IsDone h r
       goes_on on done = on (like.back [] [] (Agree-nothing shown) done)
 
       right : IsRight g p shown → IsRight h r shown
-      right not why wrong = let named = like.wrong shown why wrong in not named.0 named.1
+      right not why wrong = grind arith
 
       pub alike_sure : (n : ℕ) (bytes : List ℕ) → Carries h r n bytes → Carries g p n bytes
-      alike_sure n bytes c = record {
-        some = c.some;
-        goes_on = λ done. c.goes_on (like.there [] [] (Agree-nothing shown) done);
-        carries = λ bytes' follow more few same. like.clear bytes' follow (c.carries bytes' follow more few same);
-      }
+      alike_sure n bytes c = grind (arith, Agree-nothing)
 
       all_alike : (n : ℕ) → IsAllPayload g p n shown → IsAllPayload h r n shown
       all_alike n (inl same) = inl (same ∙ sym like.sure)

@@ -1,5 +1,5 @@
 -- Where a stream is asked by one call of a buffered reader behind others, of which each ask gave some.
-use Rattle.std.proofs.Common.{ℕ, ◌≤◌, inl, inr, List, ◌++◌, ap, arith}
+use Rattle.std.proofs.Common.{ℕ, ◌≤◌, inl, inr, List, ◌++◌, arith}
 use Rattle.buffer_redux.specs.Asking.{AskedOver, AskedWhere}
 use Rattle.buffer_redux.specs.AskingLaws.{AskedOver-on, AskedWhere-same}
 use Rattle.buffer_redux.specs.BufReader.{ReadsInOrder}
@@ -12,10 +12,7 @@ module _ {S Q : Type 0} (s m t : Buffered S Q) (wire : List ℕ) (order : ReadsI
       → P (wire ++ (m.block.bytes ++ more))) → AskedWhere O (unbuffered s) (unbuffered m)
       → AskedOver R (unbuffered m) (unbuffered t) → AskedOver P (unbuffered s) (unbuffered t)
   AskedOver-behind O P R so before =
-      let more : s.log.reads.asks ≤ m.log.reads.asks = elim before [
-        | inl same ↦ omega (arith, ap (λ l. l.reads.asks) same)
-        | inr first ↦ omega (arith, first.some)
-      ] in
+      let more : s.log.reads.asks ≤ m.log.reads.asks = grind arith in
       AskedOver-on R P (unbuffered s) (unbuffered m) (unbuffered t) wire
       (record { got = order.got; given = order.given; equal = order.equal }) more gave.asks so
 

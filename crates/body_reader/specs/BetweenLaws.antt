@@ -1,5 +1,5 @@
 -- Laws of what a reader of a body does with its buffered reader.
-use Rattle.std.proofs.Common.{◌≡◌, ℕ, zero, suc, ◌+◌, ◌<◌, ◌≤◌, List, [], ◌∷◌, ◌++◌, length, min, take, Option, Result, Ok, Err, ◌⊎◌, inl, inr, sym, ap, subst, ◌∙◌, refl, arith, append_assoc, append-nil, length-append}
+use Rattle.std.proofs.Common.{◌≡◌, ℕ, zero, suc, ◌+◌, ◌<◌, ◌≤◌, List, [], ◌∷◌, ◌++◌, length, min, Option, Result, Ok, Err, inl, inr, sym, ap, subst, ◌∙◌, refl, arith, append_assoc, append-nil, length-append, rules}
 use Rattle.std.proofs.lemmas.List.{length-take-le}
 use Rattle.std.specs.Prelude.{⊤}
 use Rattle.std.specs.declared.io.Error.{Error}
@@ -7,56 +7,36 @@ use Rattle.buffer_redux.specs.Block.{OnlyRingMoves}
 use Rattle.buffer_redux.specs.BlockLaws.{OnlyRingMoves-joins, OnlyRingMoves-none}
 use Rattle.buffer_redux.specs.Buffered.{Buffered}
 use Rattle.buffer_redux.specs.BufReader.{ReadsAlong}
-use Rattle.buffer_redux.specs.Peek.{AskedAhead, ReadsAhead}
-use Rattle.buffer_redux.specs.Policy.{ClaimsToSpare, ReadRules}
+use Rattle.buffer_redux.specs.Peek.{ReadsAhead}
+use Rattle.buffer_redux.specs.Policy.{ReadRules}
 use Rattle.buffer_redux.specs.Potential.{of_plain}
 use Rattle.buffer_redux.specs.ReaderLaws.{ReadsAlong-none, ReadsAlong-joins}
 use Rattle.buffer_redux.specs.Sparing.{Spared-none, Spared-joins}
 use Rattle.buffer_redux.specs.StreamLog.{after_read, zero_of_some}
 use Rattle.buffer_redux.specs.Unbuffer.{unbuffered}
 use Rattle.body_reader.specs.declared.error.BodyError.{BodyError}
-use Rattle.body_reader.specs.declared.error.BodyError.TheVariants.{Wrong, Truncated, Io}
 use Rattle.body_reader.specs.declared.progress.Progress.{Progress}
 use Rattle.buffer_redux.specs.Asking.{AskedWhere}
 use Rattle.buffer_redux.specs.AskingLaws.{AskedWhere-of, AskedWhere-same}
 use Rattle.body_reader.specs.AskingLaws.{AskedOver-behind}
 use Rattle.body_reader.specs.Between.{AsksWithRoom, AsksOpen, EachGave, FaultedOnce, PassesTo, PassesMany, PassesOn, PassesOnce, Proceeds, KeepsBuffer, GaveNothingOnce, StopsFor, TakenThrough, TakesBytes, TellsOnce, Way}
-use Rattle.body_reader.specs.Coding.{AskedFor, Grammar, IsDone, IsOpen, IsOpenBelow, LeadsOpen, heeded}
+use Rattle.body_reader.specs.Coding.{AskedFor, Grammar, IsOpen, IsOpenBelow, LeadsOpen}
 use Rattle.body_reader.specs.CodingLaws.{AskedFor-behind, AskedFor-here, Leads-none, Leads-then}
 
 pub EachGave-none : {S Q : Type 0} (s : Buffered S Q) → EachGave s s
 EachGave-none s = record { faults = refl; zero_reads = refl; asks = omega arith }
 
 pub EachGave-joins : {S Q : Type 0} (s m t : Buffered S Q) → EachGave s m → EachGave m t → EachGave s t
-EachGave-joins s m t x y = record {
-  faults = y.faults ∙ x.faults;
-  zero_reads = y.zero_reads ∙ x.zero_reads;
-  asks = omega (arith, x.asks, y.asks);
-}
+EachGave-joins s m t x y = grind arith
 
 -- where the log is the same nothing was read
 pub EachGave-same : {S Q : Type 0} (s t : Buffered S Q) → t.log ≡ s.log → EachGave s t
-EachGave-same s t same = record {
-  faults = ap (λ l. l.reads.faults) same;
-  zero_reads = ap (λ l. l.reads.zero_reads) same;
-  asks = omega (arith, ap (λ l. l.reads.asks) same, ap (λ l. length l.reads.given) same);
-}
+EachGave-same s t same = grind arith
 
 -- one read gave some
 pub EachGave-once : {S Q : Type 0} (s t : Buffered S Q) (out : List ℕ) (n : ℕ) → t.log ≡ after_read s.log out (Ok n) → 0 < n
     → n ≤ length out → EachGave s t
-EachGave-once s t out n told some few = record {
-  faults = ap (λ l. l.reads.faults) told;
-  zero_reads = ap (λ l. l.reads.zero_reads) told ∙ zero_of_some n out s.log.reads.zero_reads (inl some);
-  asks = omega (
-    arith,
-    some,
-    ap (λ l. l.reads.asks) told,
-    ap (λ l. length l.reads.given) told,
-    length-append s.log.reads.given (take n out),
-    length-take-le n out few,
-  );
-}
+EachGave-once s t out n told some few = grind (arith, zero_of_some, length-append, length-take-le)
 
 pub GaveNothingOnce-after : {S Q : Type 0} (s m t : Buffered S Q) → EachGave s m → GaveNothingOnce m t → GaveNothingOnce s t
 GaveNothingOnce-after s m t gave met = (met.0 ∙ gave.faults, omega (arith, met.1, gave.zero_reads))
@@ -67,36 +47,16 @@ FaultedOnce-after s m t gave e fault = (fault.0 ∙ ap (λ l. l ++ e ∷ []) gav
 -- a failure behind reads that gave
 module _ {S Q W : Type 0} (count : ℕ) (Bad : W → Type 0) (Open : Type 0) (s m t : Buffered S Q) (gave : EachGave s m) where
   pub StopsFor-after : (e : BodyError W) → StopsFor count Bad Open m e t → StopsFor count Bad Open s e t
-  StopsFor-after (Wrong why right) stops = (stops.0, EachGave-joins s m t gave stops.1, stops.2)
-  StopsFor-after (Truncated right) stops = (stops.0, GaveNothingOnce-after s m t gave stops.1, stops.2)
-  StopsFor-after (Io e) stops = (FaultedOnce-after s m t gave e stops.0, stops.1)
+  StopsFor-after e stops = grind (arith, EachGave-joins)
 
 module _ {S Q : Type 0} (rules : ReadRules Q) (least : ℕ) where
   pub KeepsBuffer-none : (s : Buffered S Q) → KeepsBuffer rules least s s
-  KeepsBuffer-none s = record {
-    kind = refl;
-    room = λ _. (refl, refl);
-    still = λ _ _. OnlyRingMoves-none s.block;
-    unmoved = λ _ _ _. omega arith;
-    spared = λ keep high claims. Spared-none keep s;
-    noted = refl;
-  }
+  KeepsBuffer-none s = search (rules, OnlyRingMoves-none, Spared-none, arith)
 
   pub KeepsBuffer-joins : {remaining : S → Option (List ℕ)} (s m t : Buffered S Q) (a b : List ℕ)
       → ReadsAlong remaining rules s a m → ReadsAlong remaining rules m b t
       → KeepsBuffer rules least s m → KeepsBuffer rules least m t → KeepsBuffer rules least s t
-  KeepsBuffer-joins s m t a b first then x y = record {
-    kind = y.kind ∙ x.kind;
-    room = λ leaves. let a = x.room leaves in let b = y.room leaves in (b.0 ∙ a.0, b.1 ∙ a.1);
-    still = λ leaves same.
-        let none : m.log.reads.asks ≡ s.log.reads.asks = omega (arith, same, first.grows.asks, then.grows.asks) in
-        OnlyRingMoves-joins s.block m.block t.block x.kind (x.still leaves none)
-        (y.still leaves (omega (arith, same, first.grows.asks, then.grows.asks)));
-    unmoved = λ leaves few plain. omega (arith, x.unmoved leaves few plain, y.unmoved leaves few (x.kind ∙ plain));
-    spared = λ keep high claimed. Spared-joins keep s m t (x.spared keep high claimed)
-        (y.spared keep high (subst (λ c. ClaimsToSpare c.spares keep) (sym first.claims) claimed));
-    noted = y.noted ∙ x.noted;
-  }
+  KeepsBuffer-joins s m t a b first then x y = grind (arith, OnlyRingMoves-joins, Spared-joins)
 
 -- reading ahead, where nothing was asked for
 unasked : {S Q A : Type 0} (remaining : S → Option (List ℕ)) (rules : ReadRules Q) (n : ℕ) (s : Buffered S Q)
@@ -151,43 +111,18 @@ module _ {S Q A : Type 0} {remaining : S → Option (List ℕ)} {rules : ReadRul
   }
 
   pub ReadsAhead-asked : AskedWhere (λ bytes. length bytes < n) (unbuffered s) (unbuffered t)
-  ReadsAhead-asked = elim ahead.asked [
-    | inl same ↦ inl same
-    | inr over ↦ inr (record { came = over.came; given = over.given; such = over.few; some = over.some; asks = over.asks })
-  ]
+  ReadsAhead-asked = grind arith
 
 -- where that gave enough, or met the end of the stream, or failed
 module _ {S Q A : Type 0} {remaining : S → Option (List ℕ)} {rules : ReadRules Q} {n : ℕ} {s t : Buffered S Q} where
   pub ReadsAhead-gave : {a : A} → ReadsAhead remaining rules n s (Ok a) t → n ≤ length t.block.bytes → EachGave s t
-  ReadsAhead-gave ahead enough = elim ahead.ended [
-    | inl some ↦ record { faults = ahead.caused; zero_reads = some.1; asks = each ahead.asked }
-    | inr few ↦ absurd (omega (arith, few.0, enough))
-  ]
-    where
-      each : (t.log ≡ s.log) ⊎ AskedAhead n s t
-          → t.log.reads.asks + length s.log.reads.given ≤ s.log.reads.asks + length t.log.reads.given
-      each (inl same) = (EachGave-same s t same).asks
-      each (inr over) = omega (
-        arith,
-        over.asks,
-        over.few,
-        enough,
-        ap length over.bytes,
-        ap length over.given,
-        length-append s.block.bytes over.came,
-        length-append s.block.bytes (over.came ++ t.log.reads.latest),
-        length-append s.log.reads.given (over.came ++ t.log.reads.latest),
-        length-append over.came t.log.reads.latest,
-      )
+  ReadsAhead-gave ahead enough = grind (arith, length-append)
 
   pub ReadsAhead-ended : {a : A} → ReadsAhead remaining rules n s (Ok a) t → length t.block.bytes < n → GaveNothingOnce s t
-  ReadsAhead-ended ahead few = elim ahead.ended [
-    | inl some ↦ absurd (omega (arith, some.0, few))
-    | inr less ↦ (ahead.caused, less.1)
-  ]
+  ReadsAhead-ended ahead few = grind arith
 
   pub ReadsAhead-failed : {e : Error} → ReadsAhead {A = A} remaining rules n s (Err e) t → FaultedOnce s e t
-  ReadsAhead-failed ahead = (ahead.caused, ahead.ended.1)
+  ReadsAhead-failed ahead = grind arith
 
 -- where fewer settle nothing
 module _ {S Q A P W : Type 0} {remaining : S → Option (List ℕ)} {rules : ReadRules Q} {g : Grammar P W} {p : P} {n : ℕ}
@@ -198,9 +133,7 @@ module _ {S Q A P W : Type 0} {remaining : S → Option (List ℕ)} {rules : Rea
       (ReadsAhead-asked ahead)
 
   pub ReadsAhead-open : length t.block.bytes < n → IsOpen g p t.block.bytes
-  ReadsAhead-open few =
-      let equal : s.block.bytes ++ ahead.along.in_order.got ≡ t.block.bytes = sym ahead.along.in_order.equal in
-      subst (IsOpen g p) equal (lacks.is_open ahead.along.in_order.got (omega (arith, few, ap length equal)))
+  ReadsAhead-open few = grind (arith, length-append)
 
 module _ {S Q P W : Type 0} (remaining : S → Option (List ℕ)) (rules : ReadRules Q) (g : Grammar P W) where
   pub AsksWithRoom-open : (room : ℕ) (s : Buffered S Q) (p : P) (t : Buffered S Q) → AsksWithRoom remaining rules g room s p t
@@ -220,13 +153,7 @@ module _ {S Q P W : Type 0} {remaining : S → Option (List ℕ)} {rules : ReadR
   -- calls of the buffered reader that hand out nothing take nothing
   pub TakesBytes-still : {s : Buffered S Q} {p : Progress P} {t : Buffered S Q} → g.is_place p.place
       → ReadsAlong remaining rules s [] t → KeepsBuffer rules g.ahead s t → TakesBytes remaining rules g s p [] [] t p
-  TakesBytes-still {s} {p} {t} place still keeps = record {
-    along = still;
-    leads = Leads-none g p.place (heeded g t.block.bytes);
-    taken = sym (append-nil p.taken.log.fills.consumed);
-    place = place;
-    keeps = keeps;
-  }
+  TakesBytes-still {s} {p} {t} place still keeps = grind (arith, Leads-none, append-nil)
 
   -- no call takes nothing, and two traces of calls join
   pub TakesBytes-none : {s : Buffered S Q} {p : Progress P} → g.is_place p.place → TakesBytes remaining rules g s p [] [] s p
@@ -269,11 +196,7 @@ module _ {S Q P W : Type 0} {remaining : S → Option (List ℕ)} {rules : ReadR
 
   pub TellsOnce-passes : {s : Buffered S Q} {p : P} {t : Buffered S Q} {q : P} → TellsOnce remaining rules g s p 0 t q
       → PassesTo remaining rules g s p t q
-  TellsOnce-passes {s} {p} {t} {q} tells = elim tells.once [
-    | inl none ↦ subst (λ x. PassesTo remaining rules g s p x q) (sym none.1)
-        (subst (PassesTo remaining rules g s p tells.front) (sym none.2) tells.passes)
-    | inr some ↦ absurd (omega (arith, some.0))
-  ]
+  TellsOnce-passes {s} {p} {t} {q} tells = grind arith
 
   -- where no payload is handed out all is taken through the buffer
   pub Way-through : {room : ℕ} {s : Buffered S Q} {p : Progress P} {t : Buffered S Q} {q : Progress P}
@@ -323,25 +246,18 @@ module _ {S Q P W : Type 0} {remaining : S → Option (List ℕ)} {rules : ReadR
       wire = before.wire ++ way.wire;
       takes = TakesBytes-joins before.takes way.takes;
       asked = asks_on t way.asked;
-      through = elim way.through [
-        | inl all ↦ inl (omega (arith, Way-through before, all, length-append before.wire way.wire))
-        | inr past ↦ inr (past.0, omega (arith, before.takes.along.capacity, past.1))
-      ];
+      through = grind (arith, Way-through before, length-append before.wire way.wire);
       tells = record {
         front = way.tells.front;
         place = way.tells.place;
         passes = PassesTo-joins (TellsOnce-passes before.tells) way.tells.passes;
         once = way.tells.once;
       };
-      idle = λ done.
-          let first = before.idle done in
-          let then = way.idle (subst (λ x. IsDone g x.place) (sym first.1) done) in
-          (then.0 ∙ first.0, then.1 ∙ first.1);
+      idle = λ done. grind arith;
     }
 
     pub Proceeds-after : {A : Type 0} {handed : List ℕ} {t : Buffered S Q} {r : Progress P} (answer : Result A (BodyError W))
         (Means : A → Type 0)
         → Proceeds remaining rules g room m q handed answer Means t r
         → Proceeds remaining rules g room s p handed answer Means t r
-    Proceeds-after {t = t} (Ok a) Means goes = (Way-joins goes.0, (EachGave-joins s m t gave goes.1.0, goes.1.1))
-    Proceeds-after {t = t} (Err e) Means goes = (Way-joins goes.0, StopsFor-after _ _ _ s m t gave e goes.1)
+    Proceeds-after {t = t} answer Means goes = grind (arith, EachGave-joins, StopsFor-after, Way-joins)

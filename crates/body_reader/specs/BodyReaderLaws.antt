@@ -8,7 +8,8 @@ use Rattle.buffer_redux.specs.ReaderLaws.{ReadsAlong-none, ReadsAlong-joins, Rea
 use Rattle.buffer_redux.specs.Remaining.{ahead}
 use Rattle.buffer_redux.specs.StreamLog.{StreamLog}
 use Rattle.body_reader.specs.BetweenLaws.{KeepsBuffer-joins, KeepsBuffer-none}
-use Rattle.body_reader.specs.BodyReader.{BodyState, BodyWent, Breaks, EndsEarly, IsBodyReader, NotedIfSome, TookWholeBody, begun, handed_of}
+use Rattle.body_reader.specs.BodyReader.{BodyState, BodyWent, IsBodyReader, NotedIfSome, TookWholeBody, begun, handed_of}
+use Rattle.body_reader.specs.Given.{HandsGiven}
 use Rattle.body_reader.specs.Coding.{Agree, Grammar, IsBody, IsLawful, Leads, heeded}
 use Rattle.body_reader.specs.CodingLaws.{Agree-front, Agree-less, Leads-left, Leads-none, heeded_on}
 
@@ -21,12 +22,7 @@ NotedIfSome-given calls out (suc n) later noted = ap (λ l. l.reads.given) (note
 -- a reader that was just made stands before a body
 pub begun-is : {S Q C P W : Type 0} (g : Grammar P W) → IsLawful g → (reader : Buffered S Q) (coding : C)
     → (g.ahead) ≤ reader.block.capacity → IsBodyReader g (begun g reader coding)
-begun-is g lawful reader coding room = record {
-  leads = Leads-none g g.first (heeded g reader.block.bytes);
-  place = lawful.begins;
-  room = room;
-  known = (omega arith, λ some. absurd (omega (arith, some)));
-}
+begun-is g lawful reader coding room = grind (arith, Leads-none)
 
 module _ {S Q C P W : Type 0} (remaining : S → Option (List ℕ)) (rules : ReadRules Q) (g : Grammar P W) where
   -- no call hands out nothing, and two traces of calls join
@@ -77,26 +73,19 @@ module _ {S Q C P W : Type 0} (remaining : S → Option (List ℕ)) (rules : Rea
 module _ {S Q C P W : Type 0} (g : Grammar P W) (lawful : IsLawful g) (t : BodyState S Q C P) (is : IsBodyReader g t)
     (body payload behind rest : List ℕ) (is_body : IsBody g body payload)
     (same : body ++ behind ≡ t.taken ++ (t.reader.block.bytes ++ rest)) where
-  pub given_front : (later : List ℕ) × (payload ≡ handed_of t ++ later)
-  given_front =
-      let left = Leads-left g t.taken (handed_of t) t.place t.reader.block.bytes is.leads body payload is_body behind rest
-      same in
-      (left.later, left.front)
-
-  pub given_right : (why : W) → ¬ (Breaks g why t)
-  given_right why breaks = breaks.none body payload behind rest is_body same
-
-  pub given_there : rest ≡ [] → ¬ (EndsEarly g t)
-  given_there none early =
-      early.none body payload behind is_body
-      (same ∙ ap (λ l. t.taken ++ (t.reader.block.bytes ++ l)) none
-      ∙ ap (λ l. t.taken ++ l) (append-nil t.reader.block.bytes))
-
-  pub given_all : TookWholeBody g t → (handed_of t ≡ payload) × (t.reader.block.bytes ++ rest ≡ behind)
-  given_all whole =
-      let left = t.reader.block.bytes ++ rest in
-      let all = lawful.one t.taken body (handed_of t) payload left behind whole is_body (sym same) in
-      (all.1, append_cancel_left t.taken left behind (sym same ∙ ap (λ l. l ++ behind) (sym all.0)))
+  pub given : HandsGiven g payload behind rest t
+  given =
+      let bytes = t.reader.block.bytes in
+      let left = Leads-left g t.taken (handed_of t) t.place bytes is.leads body payload is_body behind rest same in
+      record {
+        front = (left.later, left.front);
+        right = λ why breaks. breaks.none body payload behind rest is_body same;
+        there = λ none early. early.none body payload behind is_body
+            (same ∙ ap (λ l. t.taken ++ (bytes ++ l)) none ∙ ap (λ l. t.taken ++ l) (append-nil bytes));
+        all = λ whole.
+            let all = lawful.one t.taken body (handed_of t) payload (bytes ++ rest) behind whole is_body (sym same) in
+            (all.1, append_cancel_left t.taken (bytes ++ rest) behind (sym same ∙ ap (λ l. l ++ behind) (sym all.0)));
+      }
 
 -- calls lead from place to place, with what they took and handed out
 module _ {S Q C P W : Type 0} (remaining : S → Option (List ℕ)) (rules : ReadRules Q) (g : Grammar P W)

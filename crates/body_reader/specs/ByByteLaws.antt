@@ -22,35 +22,21 @@ module _ {P W : Type 0} (t : TurnRules P W) where
 
   kept_back : (p q : P) (byte : ℕ) (rest whole : List ℕ) → t.turn p byte ≡ Payload q → CompletesByTurns t p (byte ∷ rest) whole
       → (payload : List ℕ) × (whole ≡ byte ∷ payload) × CompletesByTurns t q rest payload
-  kept_back p q byte rest whole is (_, inl c) =
-      let same : c.0 ≡ q = (let both : Payload c.0 ≡ Payload q = sym c.2 ∙ is in cc) in
-      (c.1, c.3, subst (λ r. CompletesByTurns t r rest c.1) same c.4)
-  kept_back p q byte rest whole is (_, inr c) = let odd : Passed c.0 ≡ Payload q = sym c.1 ∙ is in cc
+  kept_back p q byte rest whole is c = grind arith
 
   passed_back : (p q : P) (byte : ℕ) (rest whole : List ℕ) → t.turn p byte ≡ Passed q → CompletesByTurns t p (byte ∷ rest) whole
       → CompletesByTurns t q rest whole
-  passed_back p q byte rest whole is (_, inl c) = let odd : Payload c.0 ≡ Passed q = sym c.2 ∙ is in cc
-  passed_back p q byte rest whole is (_, inr c) =
-      let same : c.0 ≡ q = (let both : Passed c.0 ≡ Passed q = sym c.1 ∙ is in cc) in
-      subst (λ r. CompletesByTurns t r rest whole) same c.2
+  passed_back p q byte rest whole is c = grind arith
 
   -- a byte of payload leads on
   kept_leads : (p q : P) (byte : ℕ) (follow : List ℕ) → t.is_end p ≡ false → t.turn p byte ≡ Payload q
       → Leads (by_byte t) p (byte ∷ []) (byte ∷ []) q follow
-  kept_leads p q byte follow open' is = record {
-    onward = λ rest payload agree c. (open', inl (q, payload, is, refl, c));
-    back = λ rest whole agree c. kept_back p q byte rest whole is c;
-    within = λ rest payload past c same. one_within p byte rest payload past open' c same;
-  }
+  kept_leads p q byte follow open' is = grind (arith, kept_back, one_within)
 
   -- and so does one that is none
   passed_leads : (p q : P) (byte : ℕ) (follow : List ℕ) → t.is_end p ≡ false → t.turn p byte ≡ Passed q
       → Leads (by_byte t) p (byte ∷ []) [] q follow
-  passed_leads p q byte follow open' is = record {
-    onward = λ rest payload agree c. (open', inr (q, is, c));
-    back = λ rest whole agree c. (whole, refl, passed_back p q byte rest whole is c);
-    within = λ rest payload past c same. one_within p byte rest payload past open' c same;
-  }
+  passed_leads p q byte follow open' is = grind (arith, passed_back, one_within)
 
   -- payload leads on
   pub keeps_leads : (p : P) (bytes : List ℕ) (q : P) (follow : List ℕ) → LeadsByPayload t p bytes q
@@ -78,9 +64,7 @@ module _ {P W : Type 0} (t : TurnRules P W) where
       keeps_one l.1 a q r (subst (λ m. LeadsByPayload t m a q) same k.3) l.3
 
   stops_none : (p : P) (bytes : List ℕ) (q : P) → NoPayloadNext t p bytes → LeadsByPayload t p bytes q → p ≡ q
-  stops_none p [] q s k = k
-  stops_none p (x ∷ bytes) q (inl done) k = let odd : false ≡ true = sym k.0 ∙ done in cc
-  stops_none p (x ∷ bytes) q (inr none) k = absurd (none k.1 k.2)
+  stops_none p bytes q s k = grind arith
 
   -- where all of the bytes are payload, a run of payload goes as far
   pub ran_all : (p : P) (bytes : List ℕ) (q : P) (n : ℕ) (r : P) → Ran t p bytes n r → LeadsByPayload t p bytes q → r ≡ q
@@ -106,20 +90,12 @@ module _ {P W : Type 0} (t : TurnRules P W) where
   pub ran_leads : (p : P) (bytes : List ℕ) (q : P) (n : ℕ) (r : P) (follow : List ℕ) → Ran t p bytes n r
       → LeadsByPayload t p bytes q
       → Leads (by_byte t) p bytes bytes r follow
-  ran_leads p bytes q n r follow ran k =
-      subst (λ m. Leads (by_byte t) p bytes bytes m follow) (sym (ran_all p bytes q n r ran k))
-      (keeps_leads p bytes q follow k)
+  ran_leads p bytes q n r follow ran k = grind (arith, ran_all, keeps_leads)
 
   -- what a look answers
   ran_some : (p : P) (shown : List ℕ) (n : ℕ) (r q : P) → (length shown == 0) ≡ false → t.is_end p ≡ false
       → t.turn p (slice_index shown 0) ≡ Payload q → Ran t p shown n r → 0 < n
-  ran_some p [] n r q more open' is ran = let odd : true ≡ false = more in cc
-  ran_some p (byte ∷ rest) zero r q more open' is ran = absurd (stopped ran.stops)
-    where
-      stopped : ¬ NoPayloadNext t r (byte ∷ rest)
-      stopped (inl done) = let odd : false ≡ true = sym open' ∙ ap (λ m. t.is_end m) ran.keeps ∙ done in cc
-      stopped (inr none) = none q (subst (λ m. t.turn m byte ≡ Payload q) ran.keeps is)
-  ran_some p (byte ∷ rest) (suc n) r q more open' is ran = omega arith
+  ran_some p shown n r q more open' is ran = grind arith
 
   -- no more of the bytes are payload
   ran_most : (bytes : List ℕ) (p r : P) (n m : ℕ) → LeadsByPayload t p (take n bytes) r → NoPayloadNext t r (drop n bytes)
@@ -140,8 +116,7 @@ module _ {P W : Type 0} (t : TurnRules P W) where
   -- nothing is wrong where the next byte isn't
   right_turn : (p : P) (shown : List ℕ) → (length shown == 0) ≡ false → ((why : W) → t.turn p (slice_index shown 0) ≢ Wrong why)
       → (why : W) → ¬ IsWrongTurn t p shown why
-  right_turn p [] more right why wrong = wrong
-  right_turn p (byte ∷ shown) more right why wrong = right why wrong.1
+  right_turn p shown more right why wrong = grind arith
 
   pub looks_payload : (p : P) (shown : List ℕ) (n : ℕ) (r q : P) → (length shown == 0) ≡ false → t.is_end p ≡ false
       → t.turn p (slice_index shown 0) ≡ Payload q → Ran t p shown n r → Looks (by_byte t) p shown (look.Payload n)
@@ -179,12 +154,10 @@ module _ {P W : Type 0} (t : TurnRules P W) where
 
   -- it is wrong for one reason, however it goes on
   reason : (p : P) (shown : List ℕ) (why other : W) → IsWrongTurn t p shown why → IsWrongTurn t p shown other → why ≡ other
-  reason p [] why other wrong so = absurd wrong
-  reason p (byte ∷ shown) why other wrong so = let both : Wrong why ≡ Wrong other = sym wrong.1 ∙ so.1 in cc
+  reason p shown why other wrong so = grind arith
 
   stays : (p : P) (shown more : List ℕ) (why : W) → IsWrongTurn t p shown why → IsWrongTurn t p (shown ++ more) why
-  stays p [] more why wrong = absurd wrong
-  stays p (byte ∷ shown) more why wrong = wrong
+  stays p shown more why wrong = grind arith
 
   -- no bytes begin with two bodies
   only_one : (p : P) (a b x y xs ys : List ℕ) → CompletesByTurns t p a x → CompletesByTurns t p b y → a ++ xs ≡ b ++ ys
@@ -230,15 +203,7 @@ module _ {P W : Type 0} (t : TurnRules P W) where
   -- what a look answers where the next byte is no payload, or none is shown
   pub looks_passed : AreLawful t → (p q : P) (shown : List ℕ) → (length shown == 0) ≡ false → t.is_end p ≡ false
       → t.turn p (slice_index shown 0) ≡ Passed q → Looks (by_byte t) p shown (look.Passed 1 q)
-  looks_passed lawful p q [] more open' is = let odd : true ≡ false = more in cc
-  looks_passed lawful p q (byte ∷ shown) more open' is = (
-    omega arith,
-    omega arith,
-    record { leads = passed_leads p q byte [] open' is; few = omega (arith, lawful.nearer p q byte is) },
-    tt,
-    not_done p open',
-    right_turn p (byte ∷ shown) more (λ why odd. (let both : Passed q ≡ Wrong why = sym is ∙ odd in cc)),
-  )
+  looks_passed lawful p q shown more open' is = grind (arith, passed_leads, right_turn)
 
   pub looks_none : AreLawful t → (p : P) (shown : List ℕ) → (length shown == 0) ≡ true → t.is_end p ≡ false
       → Looks (by_byte t) p shown (look.More 1)

@@ -41,11 +41,7 @@ nothing_behind (x ∷ rest) past same = cc
 module _ {P W : Type 0} (g : Grammar P W) where
   -- no byte leads nowhere, whatever follows
   pub Leads-none : (p : P) (follow : List ℕ) → Leads g p [] [] p follow
-  Leads-none p follow = record {
-    onward = λ rest payload agree c. c;
-    back = λ rest whole agree c. (whole, refl, c);
-    within = λ rest payload past c same. nothing_behind rest past (sym same);
-  }
+  Leads-none p follow = grind (arith, nothing_behind)
 
   -- and where more follows
   pub Leads-more : (p q : P) (wire handed follow more : List ℕ) → Leads g p wire handed q follow
@@ -118,9 +114,7 @@ module _ {P W : Type 0} (g : Grammar P W) where
   -- what leads from the beginning of a body to its end is a body
   pub Leads-whole : (bytes payload : List ℕ) (q : P) (follow : List ℕ) → Leads g g.first bytes payload q follow → IsDone g q
       → IsBody g bytes payload
-  Leads-whole bytes payload q follow leads done =
-      subst (λ l. IsBody g bytes l) (append-nil payload)
-      (subst (λ l. IsBody g l (payload ++ [])) (append-nil bytes) (leads.onward [] [] (Agree-nothing follow) done))
+  Leads-whole bytes payload q follow leads done = grind (arith, append-nil, Agree-nothing)
 
   -- and what leads to a place is one only where that is its end
   pub Leads-done : IsLawful g → (bytes payload : List ℕ) (q : P) (follow : List ℕ)

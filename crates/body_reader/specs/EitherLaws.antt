@@ -49,8 +49,7 @@ module _ {P R V X : Type 0} (at : P → R) (place_of : R → Option P) (name : V
   module _ (named : (x : X) (v : V) → name_of x ≡ Some v → x ≡ name v) (lawful : IsLawful g) where
     bad : {o : Option P} {p : P} → o ≡ Some p → (shown : List ℕ) (why : X)
         → IsSomeAnd o (λ q. IsSomeAnd (name_of why) (g.wrong q shown)) → (v : V) × (name_of why ≡ Some v) × g.wrong p shown v
-    bad {p = p} is shown why wrong =
-        found (name_of why) (g.wrong p shown) (from is (λ q. IsSomeAnd (name_of why) (g.wrong q shown)) wrong)
+    bad {p = p} is shown why wrong = grind (arith, found)
 
     side_lawful : IsLawful h
     side_lawful = record {

@@ -1,5 +1,5 @@
 -- Laws of bodies that are just some bytes, or else end at a delimiter.
-use Rattle.std.proofs.Common.{◌≡◌, ℕ, ◌+◌, ◌<◌, ◌≤◌, List, [], ◌∷◌, ◌++◌, length, take, drop, inl, inr, sym, ap, refl, subst, ◌∙◌, arith, append_assoc, append-nil, length-append}
+use Rattle.std.proofs.Common.{◌≡◌, ℕ, ◌+◌, ◌<◌, ◌≤◌, List, [], ◌++◌, length, take, drop, inl, inr, sym, ap, refl, subst, ◌∙◌, arith, append_assoc, append-nil, length-append}
 use Rattle.std.proofs.lemmas.List.{nil_from_length, take-append-drop, take_at}
 use Rattle.body_reader.specs.declared.coding.Look.{Look}
 use Rattle.body_reader.specs.declared.coding.Look.TheVariants as look
@@ -20,16 +20,7 @@ module _ (just needle : List ℕ) (room : ℕ) (some : 0 < length just) (shorter
   Like = Alike (until needle) (just_or_until just needle room) at.Until (λ why. why)
 
   pub alike_until : (part : Part) (shown : List ℕ) → Like (at.Until part) part shown
-  alike_until part shown = record {
-    there = λ rest payload agree c. c;
-    back = λ rest payload agree c. c;
-    carried = λ bytes follow more same clear. clear;
-    clear = λ bytes follow clear. clear;
-    between = refl;
-    sure = refl;
-    named = λ bytes why wrong. wrong;
-    wrong = λ bytes why wrong. (why, wrong);
-  }
+  alike_until part shown = grind arith
 
   -- what goes on as bytes that neither begin the others nor begin with them
   differs : (shown rest more : List ℕ) → ¬ Agree just shown → Agree shown rest → ¬ (rest ≡ just ++ more)
@@ -100,8 +91,7 @@ module _ (just needle : List ℕ) (room : ℕ) (some : 0 < length just) (shorter
   }
 
   start_goes_on : ¬ IsDone (just_or_until just needle room) at.Start
-  start_goes_on (inl here) = omega (arith, some, ap length here.0)
-  start_goes_on (inr there) = omega (arith, shorter, ap length there.1.0)
+  start_goes_on done = grind arith
 
   pub looks_just : (shown more : List ℕ) → shown ≡ just ++ more
       → Looks (just_or_until just needle room) at.Start shown (look.Passed (length just) at.Just)
@@ -119,36 +109,16 @@ module _ (just needle : List ℕ) (room : ℕ) (some : 0 < length just) (shorter
   -- the beginning of just the bytes settles nothing
   begun_open : (shown rest : List ℕ) → just ≡ shown ++ rest → length shown < length just
       → IsOpen (just_or_until just needle room) at.Start shown
-  begun_open shown rest is few = record {
-    few = omega (arith, few, shorter, fits);
-    further = λ more payload c agree. elim c [
-      | inl here ↦ omega (arith, few, ap length here.0)
-      | inr there ↦ omega (arith, few, shorter, ap length there.1.0, length-append payload needle)
-    ];
-    behind = rest;
-    payload = [];
-    completes = inl (sym is, refl);
-    unknown = λ front byte back later same first. (let odd : [] ≡ byte ∷ later = first in cc);
-  }
+  begun_open shown rest is few = grind (arith, length-append)
 
   pub looks_begun : (shown rest : List ℕ) → just ≡ shown ++ rest → length shown < length just
       → IsOpenBelow (just_or_until just needle room) at.Start (length shown + 1) shown
-  looks_begun shown rest is few = record {
-    few = omega arith;
-    most = omega (arith, few, shorter, fits);
-    is_open = λ more less. subst (IsOpen (just_or_until just needle room) at.Start)
-        (sym (append-nil shown) ∙ ap (λ l. shown ++ l)
-        (sym (nil_from_length more (omega (arith, less, length-append shown more)))))
-        (begun_open shown rest is few);
-  }
+  looks_begun shown rest is few = grind (arith, begun_open, nil_from_length, length-append, append-nil)
 
   -- bytes of which none begin the others differ
   pub apart : (shown : List ℕ) → ((more : List ℕ) → ¬ (shown ≡ just ++ more)) → ((more : List ℕ) → ¬ (just ≡ shown ++ more))
       → ¬ Agree just shown
-  apart shown not_begins not_begun agree = elim (overlaps just agree.0 shown agree.1 agree.2) [
-    | inl found ↦ not_begins found.0 found.1
-    | inr found ↦ not_begun found.0 found.1
-  ]
+  apart shown not_begins not_begun agree = grind (arith, overlaps)
 
   -- payload leads on, and what stands behind it is payload still
   pub text_leads : (place : JustOr) (bytes follow : List ℕ) → IsSurePayload just needle place bytes follow
@@ -171,8 +141,7 @@ module _ (just needle : List ℕ) (room : ℕ) (some : 0 < length just) (shorter
   -- what begins with just the bytes is no longer body
   not_longer : (a b y xs ys : List ℕ) → a ≡ just → ((more : List ℕ) → ¬ (b ≡ just ++ more)) → length just < length b
       → ¬ (a ++ xs ≡ b ++ ys)
-  not_longer a b y xs ys is not long' same =
-      let found = begins_other just xs b ys (omega (arith, long')) (ap (λ l. l ++ xs) (sym is) ∙ same) in not found.0 found.1
+  not_longer a b y xs ys is not long' same = grind (arith, begins_other)
 
   only_one : (a b x y xs ys : List ℕ) → EndsJust just needle at.Start a x → EndsJust just needle at.Start b y
       → a ++ xs ≡ b ++ ys → (a ≡ b) × (x ≡ y)

@@ -65,7 +65,7 @@ module _ (needle : List ℕ) (some : 0 < length needle) where
   clear_leads Behind bytes follow clear = absurd clear
 
   inside_open : ¬ (EndsPart needle Inside [] [])
-  inside_open c = omega (arith, some, ap length c.0)
+  inside_open c = grind arith
 
   -- and what stands behind it is payload still
   pub clear_still : (place : Part) (bytes more follow : List ℕ) → IsClear needle place (bytes ++ more) follow
@@ -207,27 +207,14 @@ module _ (needle : List ℕ) (some : 0 < length needle) where
 
   -- where it may begin at once, nothing is settled until a byte more is shown
   front_open : (shown rest : List ℕ) → needle ≡ shown ++ rest → length shown < length needle → IsOpen (until needle) Inside shown
-  front_open shown rest is few = record {
-    few = few;
-    further = λ more payload c agree. omega (arith, few, ap length c.0, length-append payload needle);
-    behind = rest;
-    payload = [];
-    completes = subst (λ l. EndsPart needle Inside l []) is just_ends;
-    unknown = λ front byte back later same first. (let odd : [] ≡ byte ∷ later = first in cc);
-  }
+  front_open shown rest is few = grind (arith, just_ends, length-append)
 
   no_more : (shown more : List ℕ) → length (shown ++ more) < length shown + 1 → shown ≡ shown ++ more
-  no_more shown more few =
-      sym (append-nil shown) ∙ ap (λ l. shown ++ l) (sym (nil_from_length more (omega (arith, few, length-append shown more))))
+  no_more shown more few = grind (arith, nil_from_length, length-append, append-nil)
 
   pub looks_short : (shown : List ℕ) → length shown < length needle → MayBegin needle shown 0
       → IsOpenBelow (until needle) Inside (length shown + 1) shown
-  looks_short shown few begins = record {
-    few = omega arith;
-    most = omega (arith, few);
-    is_open = λ more short. subst (IsOpen (until needle) Inside) (no_more shown more short)
-        (front_open shown begins.front.0 begins.front.1 few);
-  }
+  looks_short shown few begins = grind (arith, front_open, no_more)
 
   until_nothing : (place : Part) (payload : List ℕ) → EndsPart needle place [] payload → payload ≡ []
   until_nothing Inside payload c = absurd (omega (arith, some, ap length c.0, length-append payload needle))

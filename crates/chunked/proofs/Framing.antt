@@ -1,5 +1,5 @@
 -- What stands plainly between two payloads leads from the one to the other.
-use Rattle.std.proofs.Common.{◌≡◌, ℕ, zero, suc, ◌+◌, ◌*◌, ◌-◌, ◌<◌, ◌≤◌, ◌⊎◌, ◌^◌, List, [], ◌∷◌, ◌++◌, length, take, slice_index, ◌∙◌, ap, sym, subst, arith, inl, inr, refl, length-append}
+use Rattle.std.proofs.Common.{◌≡◌, ℕ, ◌+◌, ◌*◌, ◌-◌, ◌<◌, ◌≤◌, ◌⊎◌, ◌^◌, List, [], ◌∷◌, ◌++◌, length, take, slice_index, ◌∙◌, ap, sym, subst, arith, inl, inr, refl, length-append}
 use Rattle.std.proofs.Math.Nat.{pow-le-pow_right}
 use Rattle.std.proofs.lemmas.Grind.{pow_more}
 use Rattle.chunked.specs.Names.{behind_size, chunked, Comes, Data, digit_value, IsPlace, Leads-joins, Leads-more, Leads-none, Limits, Line, Place, Size, SizeFeed, StepsTo, take_more}
@@ -7,7 +7,7 @@ use Rattle.chunked.specs.StepLaws.{passes}
 
 -- so many digits write a number that isn't too large
 pub few_digits : (size k : ℕ) → size < 16 ^ k → k ≤ 14 → size < 2 ^ 58
-few_digits size k small few = omega (arith, small, pow-le-pow_right {n = 16} (omega arith) few)
+few_digits size k small few = grind (arith, pow-le-pow_right)
 
 pub more_digits : (size digit at begins : ℕ) → begins ≤ at → size < 16 ^ (at - begins) → digit < 16
     → size * 16 + digit < 16 ^ (at + 1 - begins)
@@ -17,8 +17,7 @@ more_digits size digit at begins order small few =
 
 module _ (limits : Limits) where
   pub comes_none : (p : Place) → IsPlace p → Comes limits p [] p
-  comes_none p place =
-      record { passes = record { leads = Leads-none (chunked limits) p []; few = omega arith }; place = place }
+  comes_none p place = grind (arith, Leads-none)
 
   -- a byte more
   pub comes_more : (p q r : Place) (shown : List ℕ) (at b : ℕ) → at < length shown → slice_index shown at ≡ b
@@ -59,8 +58,7 @@ module _ (limits : Limits) where
 
   -- the end of the line
   behind_some : (size : ℕ) → 0 < size → Data size ≡ behind_size limits size
-  behind_some zero some = absurd (omega (arith, some))
-  behind_some (suc n) some = refl
+  behind_some size some = grind arith
 
   pub frames : (p : Place) (shown : List ℕ) (at size room : ℕ) → 0 < size → Comes limits p (take at shown) (Size size room)
       → at + 2 ≤ length shown → slice_index shown at ≡ 13 → slice_index shown (at + 1) ≡ 10

@@ -1,5 +1,5 @@
 -- What payload that goes on in a chunk does, and what a chunk does that is begun.
-use Rattle.std.proofs.Common.{◌≡◌, ℕ, zero, suc, ◌+◌, ◌-◌, ◌<◌, ◌≤◌, List, [], ◌++◌, length, min, take, Result, Ok, Err, MatchResult, sym, ap, subst, ◌∙◌, arith, inl, inr, refl, append_assoc, append-nil}
+use Rattle.std.proofs.Common.{◌≡◌, ℕ, ◌+◌, ◌-◌, ◌<◌, ◌≤◌, List, [], ◌++◌, length, min, take, Result, Ok, Err, MatchResult, ap, ◌∙◌, arith, inl, inr, refl, append_assoc, append-nil}
 use Rattle.chunked.specs.Names.{accepted_of, after_write, around, Buffered, cases_lt, chunk_begun, chunk_end, ChunkedWriterState, CopiesSizeLine, Error, GoesDirect, greatest, HasBegun, InnerWent, IsBlock, IsChunkedWriter, IsChunks, IsNoted, length-take, length-take-le, MakesRoom, MakesSpace, PayloadWent, portion, PutsIn, room, StdPolicy, StreamLog, take-take, take_all, take_min, TakesSome, TakesThere, WentOn, with_block, WritesChunk}
 use Rattle.chunked.specs.ChunkLaws.{HasBegun-ends, HasBegun-more}
 use Rattle.chunked.specs.ChunkedWriterLaws.{PayloadWent-joins}
@@ -7,21 +7,12 @@ use Rattle.chunked.proofs.Writing.{WentIn, nothing_went, payload_went, puts_went
 
 -- behind the last byte the line ends
 pub chunk_end_more : (due : ℕ) → 0 < due → chunk_end due ≡ []
-chunk_end_more zero some = absurd (omega (arith, some))
-chunk_end_more (suc due) some = refl
+chunk_end_more due some = grind arith
 
 -- room was made
 pub puts_roomy : {S : Type 0} (s t : Buffered S StdPolicy) → MakesRoom s.block t.block → t ≡ with_block s t.block
     → IsBlock t.block → PutsIn s [] t
-puts_roomy s t room others whole = record {
-  others = others;
-  added = room.bytes ∙ sym (append-nil s.block.bytes);
-  capacity = room.capacity;
-  limit = room.limit;
-  kind = room.kind;
-  consumed = room.consumed;
-  whole = whole;
-}
+puts_roomy s t room others whole = grind (arith, append-nil)
 
 -- as much as is due, and no more
 pub take_least : (due : ℕ) (payload : List ℕ) → take (min (length payload) due) payload ≡ take due payload
@@ -32,35 +23,16 @@ module _ {S : Type 0} (tells : S → StreamLog) (trace : S → S → Type 0) (no
     (joins : (a b c : S) → trace a b → trace b c → trace a c) where
   -- what doesn't fit once space was made doesn't fit the capacity
   pub has_room : (s m : Buffered S StdPolicy) (n : ℕ) → MakesSpace tells trace n s (Ok tt) m → n ≤ m.block.capacity → n ≤ room m
-  has_room s m n made small = elim (cases_lt (room s) n) [
-    | inl full ↦ omega (arith, small, ap length (made.full full).ok.empty)
-    | inr there ↦ omega (arith, there, ap room (made.fits there).1)
-  ]
+  has_room s m n made small = grind arith
 
   -- past an empty buffer
   past_went : (s t : Buffered S StdPolicy) (part : List ℕ) (answer : Result ℕ Error) → IsBlock s.block → s.block.bytes ≡ []
       → GoesDirect after_write s part answer t → InnerWent tells trace s t → WentIn trace s (portion part answer) t
-  past_went s t part answer whole empty direct calls = record {
-    in_order = record {
-      sent = portion part answer;
-      received = ap (λ l. l.writes.received) direct.told;
-      equal = ap (λ b. portion part answer ++ b.bytes) direct.block ∙ ap (λ l. portion part answer ++ l) empty
-          ∙ append-nil (portion part answer) ∙ ap (λ l. l ++ portion part answer) (sym empty);
-      consumed = omega (arith, ap (λ b. b.consumed) direct.block);
-    };
-    went = calls.calls;
-    noted = calls.noted;
-    capacity = ap (λ b. b.capacity) direct.block;
-    limit = ap (λ b. b.limit) direct.block;
-    whole = subst IsBlock (sym direct.block) whole;
-  }
+  past_went s t part answer whole empty direct calls = grind (arith, append-nil)
 
   past_empty : (s m : Buffered S StdPolicy) (n : ℕ) → MakesSpace tells trace n s (Ok tt) m → m.block.capacity < n
       → m.block.bytes ≡ []
-  past_empty s m n made large = elim (cases_lt (room s) n) [
-    | inl full ↦ (made.full full).ok.empty
-    | inr there ↦ absurd (omega (arith, there, large, ap (λ x. x.block.capacity) (made.fits there).1))
-  ]
+  past_empty s m n made large = grind arith
 
   -- a part that was taken in, or not
   there_went : (m t : Buffered S StdPolicy) (part : List ℕ) (answer : Result ℕ Error) → IsBlock m.block
@@ -104,7 +76,7 @@ module _ {S : Type 0} (tells : S → StreamLog) (trace : S → S → Type 0) (no
           (puts_went tells trace none joins m t.writer (chunk_end t.due) ends))
 
       accepted : accepted_of t ≡ accepted_of s ++ take n payload
-      accepted = ap (λ l. l.writes.received) noted
+      accepted = grind arith
 
       ended : t.due ≡ 0 → IsChunks t.wire (accepted_of t)
       ended none = rw (wired, none, accepted)
@@ -131,12 +103,7 @@ module _ {S : Type 0} (tells : S → StreamLog) (trace : S → S → Type 0) (no
     -- the same of a writer that takes nothing in
     stays_whole : (t : ChunkedWriterState S) → WentIn trace s.writer [] t.writer → t.due ≡ s.due → t.wire ≡ s.wire
         → t.calls ≡ s.calls → IsChunkedWriter t
-    stays_whole t went due wire calls = record {
-      whole = λ none. absurd (omega (arith, none, due, within));
-      begun = λ _. rw (due, wire, calls) (is.begun within);
-      block = went.whole;
-      capacity = omega (arith, went.capacity, is.capacity);
-    }
+    stays_whole t went due wire calls = grind arith
 
     module _ (part : List ℕ) (same : part ≡ take s.due payload) (m : Buffered S StdPolicy) where
       pub goes_on : (n : ℕ) → n ≤ length part → TakesSome tells trace s.writer part (Ok n) m → (wire : List ℕ)
@@ -174,12 +141,7 @@ module _ {S : Type 0} (tells : S → StreamLog) (trace : S → S → Type 0) (no
   module _ (s : ChunkedWriterState S) (is : IsChunkedWriter s) (size : ℕ) where
     begun_went : (t : ChunkedWriterState S) → CopiesSizeLine tells trace size s (Ok tt) t
         → PayloadWent trace s (chunk_begun size []) [] t
-    begun_went t b =
-        payload_went tells trace none joins s t (chunk_begun size []) []
-        (went_on tells trace none joins s.writer b.spaced t.writer [] (chunk_begun size [])
-        (space_went tells trace none joins s.writer b.spaced around (Ok tt) is.block b.makes_space)
-        (puts_went tells trace none joins b.spaced t.writer (chunk_begun size []) b.ended.0)) b.ended.1
-        (ap (λ l. l.writes.received) b.calls ∙ sym (append-nil (accepted_of s)))
+    begun_went t b = grind (arith, payload_went, went_on, space_went, puts_went, append-nil)
 
     not_begun_went : (e : Error) (t : ChunkedWriterState S) → CopiesSizeLine tells trace size s (Err e) t
         → PayloadWent trace s [] [] t
@@ -192,8 +154,7 @@ module _ {S : Type 0} (tells : S → StreamLog) (trace : S → S → Type 0) (no
   module _ (s : ChunkedWriterState S) (payload : List ℕ) (some : 0 < length payload) where
     noted_on : (b t : ChunkedWriterState S) (answer : Result ℕ Error) → b.calls ≡ s.calls → IsNoted b payload answer t
         → IsNoted s payload answer t
-    noted_on b t (Ok n) same noted = noted ∙ ap (λ l. after_write l payload (Ok n)) same
-    noted_on b t (Err e) same noted = noted ∙ same
+    noted_on b t answer same noted = grind arith
 
     module _ (is : IsChunkedWriter s) (between : s.due ≡ 0) (large : s.writer.block.capacity < around + length payload) where
       abbrev size : ℕ

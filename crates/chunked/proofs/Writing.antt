@@ -1,14 +1,13 @@
 -- What goes into a buffered writer, and what a whole chunk and the end of a body do there.
-use Rattle.std.proofs.Common.{◌≡◌, ℕ, zero, suc, ◌+◌, ◌^◌, ◌<◌, ◌≤◌, List, [], ◌∷◌, ◌++◌, length, take, Result, Ok, sym, ap, subst, ◌∙◌, arith, inl, inr, refl, append-nil}
-use Rattle.chunked.specs.Names.{accepted_of, after_write, All, All-cons, All-nil, AllByRecursion, around, Block, body_end, Buffered, cases_lt, chunk, ChunkedWriterState, ChunksWent, Error, Finishes, HasBegun, IsBlock, IsCarried, IsChunkedWriter, IsChunks, IsTrailer, Kind, limit_of, MakesSpace, PayloadWent, Plain, PutsIn, PutsIn-order, Ring, room, SendsFirst, StdPolicy, StreamLog, take_all, taken_payloads, WritesChunk, WritesInOrder-contents, WritesInOrder-joins, WritesInOrder-none}
+use Rattle.std.proofs.Common.{◌≡◌, ℕ, ◌+◌, ◌^◌, ◌<◌, ◌≤◌, List, [], ◌∷◌, ◌++◌, length, take, Result, Ok, sym, subst, ◌∙◌, arith, refl, append-nil}
+use Rattle.chunked.specs.Names.{accepted_of, after_write, All, All-cons, All-nil, AllByRecursion, around, Block, body_end, Buffered, chunk, ChunkedWriterState, ChunksWent, Error, Finishes, IsBlock, IsCarried, IsChunkedWriter, IsTrailer, Kind, limit_of, MakesSpace, PayloadWent, PutsIn, PutsIn-order, room, SendsFirst, StdPolicy, StreamLog, take_all, taken_payloads, WritesChunk, WritesInOrder-contents, WritesInOrder-joins, WritesInOrder-none}
 use Rattle.buffer_redux.specs.BufWriter.{WasSent, WritesInOrder}
 use Rattle.chunked.specs.ChunkLaws.{IsChunks-body, IsChunks-joins}
 use Rattle.chunked.specs.TrailersLaws.{trailers_are_fields}
 
 -- no block is larger than a chunk may be
 limit_small : (k : Kind) → limit_of k ≤ 2 ^ 62
-limit_small Plain = omega arith
-limit_small Ring = omega arith
+limit_small k = grind arith
 
 pub block_small : (b : Block) → IsBlock b → b.capacity ≤ 2 ^ 62
 block_small b is = omega (arith, is.limit, is.most, limit_small b.kind)
@@ -27,67 +26,36 @@ module _ {S : Type 0} (tells : S → StreamLog) (trace : S → S → Type 0) (no
     (joins : (a b c : S) → trace a b → trace b c → trace a c) where
   pub went_on : (s m t : Buffered S StdPolicy) (a b : List ℕ) → WentIn trace s a m → WentIn trace m b t
       → WentIn trace s (a ++ b) t
-  went_on s m t a b p q = record {
-    in_order = WritesInOrder-joins s m t a b p.in_order q.in_order;
-    went = joins s.inner m.inner t.inner p.went q.went;
-    noted = q.noted ∙ p.noted;
-    capacity = q.capacity ∙ p.capacity;
-    limit = q.limit ∙ p.limit;
-    whole = q.whole;
-  }
+  went_on s m t a b p q = grind (arith, WritesInOrder-joins, joins)
 
   puts_none : (s : Buffered S StdPolicy) → IsBlock s.block → WentIn trace s [] s
-  puts_none s whole = record {
-    in_order = WritesInOrder-none s;
-    went = none s.inner;
-    noted = refl;
-    capacity = refl;
-    limit = refl;
-    whole = whole;
-  }
+  puts_none s whole = grind (arith, WritesInOrder-none, none)
 
   pub puts_went : (s t : Buffered S StdPolicy) (bytes : List ℕ) → PutsIn s bytes t → WentIn trace s bytes t
-  puts_went s t bytes puts = record {
-    in_order = PutsIn-order s t bytes puts;
-    went = rw puts.others (none s.inner);
-    noted = ap (λ x. x.own_calls) puts.others;
-    capacity = puts.capacity;
-    limit = puts.limit;
-    whole = puts.whole;
-  }
+  puts_went s t bytes puts = grind (arith, PutsIn-order, none)
 
   pub sent_went : (s t : Buffered S StdPolicy) (answer : Result (Unit {0}) Error) → WasSent tells trace s answer t
       → WentIn trace s [] t
-  sent_went s t answer sent = record {
-    in_order = sent.in_order;
-    went = sent.went.calls;
-    noted = sent.went.noted;
-    capacity = sent.capacity;
-    limit = sent.sends.sent.dropped.limit;
-    whole = sent.whole;
-  }
+  sent_went s t answer sent = grind arith
 
   pub space_went : (s t : Buffered S StdPolicy) (n : ℕ) (answer : Result (Unit {0}) Error) → IsBlock s.block
       → MakesSpace tells trace n s answer t → WentIn trace s [] t
-  space_went s t n answer whole made = elim (cases_lt (room s) n) [
-    | inl full ↦ sent_went s t answer (made.full full)
-    | inr there ↦ rw (made.fits there).1 (puts_none s whole)
-  ]
+  space_went s t n answer whole made = grind (arith, sent_went, puts_none)
 
   -- all was sent, as there was no space
   pub sent_first : (s m : Buffered S StdPolicy) (n : ℕ) (answer : Result (Unit {0}) Error) → room s < n
       → WasSent tells trace s answer m → MakesSpace tells trace n s answer m
-  sent_first s m n answer full sent = record { fits = λ there. absurd (omega (arith, there, full)); full = λ _. sent }
+  sent_first s m n answer full sent = grind arith
 
   -- there was space
   pub had_space : (s : Buffered S StdPolicy) (n : ℕ) → n ≤ room s → MakesSpace tells trace n s (Ok tt) s
-  had_space s n there = record { fits = λ _. (refl, refl); full = λ full. absurd (omega (arith, there, full)) }
+  had_space s n there = grind arith
 
   -- space was made, and these bytes were copied in
   module _ (s m t : Buffered S StdPolicy) (n : ℕ) (spaced : MakesSpace tells trace n s (Ok tt) m) (bytes : List ℕ)
       (puts : PutsIn m bytes t) where
     pub straight : n ≤ room s → PutsIn s bytes t
-    straight there = rw (spaced.fits there).1 at puts
+    straight there = grind arith
 
     pub behind : room s < n → SendsFirst tells trace s bytes t
     behind full = record { sent = m; sends = spaced.full full; puts = puts }
@@ -95,25 +63,15 @@ module _ {S : Type 0} (tells : S → StreamLog) (trace : S → S → Type 0) (no
   -- bytes of the body went in, with some payload
   pub payload_went : (s t : ChunkedWriterState S) (bytes payload : List ℕ) → WentIn trace s.writer bytes t.writer
       → t.wire ≡ s.wire ++ bytes → accepted_of t ≡ accepted_of s ++ payload → PayloadWent trace s bytes payload t
-  payload_went s t bytes payload went wire accepted = record {
-    in_order = went.in_order;
-    wire = wire;
-    accepted = accepted;
-    calls = went.went;
-    noted = went.noted;
-    capacity = went.capacity;
-    limit = went.limit;
-  }
+  payload_went s t bytes payload went wire accepted = grind arith
 
   -- and none did
   pub nothing_went : (s t : ChunkedWriterState S) → WentIn trace s.writer [] t.writer → t.wire ≡ s.wire → t.calls ≡ s.calls
       → PayloadWent trace s [] [] t
-  nothing_went s t went wire calls = payload_went s t [] [] went (wire ∙ sym (append-nil s.wire))
-      (ap (λ l. l.writes.received) calls ∙ sym (append-nil (accepted_of s)))
+  nothing_went s t went wire calls = grind (arith, payload_went, append-nil)
 
   taken_some : (payload : List ℕ) (n : ℕ) → 0 < n → taken_payloads payload (Ok n) ≡ take n payload ∷ []
-  taken_some payload zero some = absurd (omega (arith, some))
-  taken_some payload (suc n) some = refl
+  taken_some payload n some = grind arith
 
   -- a chunk that fits the capacity
   module _ (s : ChunkedWriterState S) (is : IsChunkedWriter s) (between : s.due ≡ 0) (payload : List ℕ)
@@ -131,7 +89,7 @@ module _ {S : Type 0} (tells : S → StreamLog) (trace : S → S → Type 0) (no
           (space_went s.writer m (around + length payload) (Ok tt) is.block spaced) (puts_went m t (chunk payload) puts)
 
       carried : IsCarried payload
-      carried = (some, omega (arith, small, block_small s.writer.block is.block))
+      carried = grind (arith, block_small)
 
       one : All IsCarried (payload ∷ [])
       one = All-cons IsCarried payload [] carried (All-nil IsCarried)
@@ -140,7 +98,7 @@ module _ {S : Type 0} (tells : S → StreamLog) (trace : S → S → Type 0) (no
       all = take_all (length payload) payload (omega arith)
 
       accepted_more : accepted_of Left ≡ accepted_of s ++ take (length payload) payload
-      accepted_more = ap (λ l. l.writes.received) noted
+      accepted_more = grind arith
 
       pub whole : IsChunkedWriter Left
       whole = record {
@@ -181,29 +139,13 @@ module _ {S : Type 0} (tells : S → StreamLog) (trace : S → S → Type 0) (no
     Still = record s { calls = calls }
 
     still_went : PayloadWent trace s [] [] Still
-    still_went = payload_went s Still [] [] (puts_none s.writer is.block) (sym (append-nil s.wire))
-        (ap (λ l. l.writes.received) noted)
+    still_went = grind (arith, payload_went, puts_none, append-nil)
 
     same_payload : accepted_of s ≡ accepted_of Still
     same_payload = sym (append-nil (accepted_of s)) ∙ sym still_went.accepted
 
     pub wrote_nothing : WritesChunk tells trace s payload (Ok 0) Still
-    wrote_nothing = record {
-      went = ([], still_went);
-      nothing = λ _. (refl, refl, refl);
-      chunks = λ _ _. record { carried = All-nil IsCarried; went = still_went; due = refl };
-      fits = λ some _ _. absurd (omega (arith, some, empty));
-      full = λ some _ _ _. absurd (omega (arith, some, empty));
-      begins = λ _ large. absurd (omega (arith, large, empty, is.capacity));
-      goes_on = λ some _. absurd (omega (arith, some, empty));
-      noted = noted;
-      whole = record {
-        whole = λ between. subst (IsChunks s.wire) same_payload (is.whole between);
-        begun = λ within. subst (HasBegun s.due s.wire) same_payload (is.begun within);
-        block = is.block;
-        capacity = is.capacity;
-      };
-    }
+    wrote_nothing = grind (arith, All-nil, still_went, same_payload)
 
   -- the end of the body went in behind the chunks
   pub finishes : (v s : ChunkedWriterState S) → v ≡ s → (is : IsChunkedWriter v) → v.due ≡ 0 → (m t : Buffered S StdPolicy)
@@ -226,4 +168,4 @@ module _ {S : Type 0} (tells : S → StreamLog) (trace : S → S → Type 0) (no
   pub ended : (s : ChunkedWriterState S) (fields : List (List ℕ)) (t : Buffered S StdPolicy)
       → Finishes tells trace s fields t
       → t.log.writes.received ++ t.block.bytes ≡ (s.writer.log.writes.received ++ s.writer.block.bytes) ++ body_end fields
-  ended s fields t finishes = WritesInOrder-contents s.writer t (body_end fields) finishes.in_order
+  ended s fields t finishes = grind (arith, WritesInOrder-contents)

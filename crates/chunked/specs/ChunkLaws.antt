@@ -16,9 +16,7 @@ digits_back (d ∷ ds) below =
 
 -- the digits of a size have no more than 16 bytes
 pub size_digits-few : (size : ℕ) → size < 2 ^ 62 → length (size_digits size) ≤ 16
-size_digits-few size small =
-    let few = length-digits_of-le 16 16 size (omega arith) (omega (arith, small)) in
-    omega (arith, few, length-map (digits_of 16 size) digit_char)
+size_digits-few size small = grind (arith, length-digits_of-le, length-map)
 
 -- digits end the line of the size that they write, behind others
 digits_end : (G : ℕ → List ℕ → Type 0) (digits behind : List ℕ) (number room : ℕ) → AllDigits 16 digits
@@ -67,18 +65,7 @@ IsChunks-joins bytes payload more h carried = record {
 -- payload goes on in a chunk that was begun, to its end or not
 module _ (due : ℕ) (bytes payload more : List ℕ) (h : HasBegun due bytes payload) where
   pub HasBegun-more : length more ≤ due → HasBegun (due - length more) (bytes ++ more) (payload ++ more)
-  HasBegun-more within =
-      let size : length (h.part ++ more) + (due - length more) ≡ length h.part + due =
-      omega (arith, within, length-append h.part more) in
-      record {
-        before = h.before;
-        carried = h.carried;
-        chunks = h.chunks;
-        part = h.part ++ more;
-        equal = rw (h.equal, size) (simp append_assoc);
-        joined = rw h.joined (append_assoc h.carried h.part more);
-        small = omega (arith, h.small, size);
-      }
+  HasBegun-more within = grind (arith, length-append, append_assoc)
 
   pub HasBegun-ends : 0 < due → length more ≡ due → IsChunks (bytes ++ (more ++ line_end [])) (payload ++ more)
   HasBegun-ends some all =

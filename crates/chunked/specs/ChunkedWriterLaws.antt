@@ -1,34 +1,18 @@
 -- Laws of a writer of a body: traces of calls join.
 use Rattle.std.specs.Prelude.{ℕ, List, [], ◌++◌, flat_map}
-use Rattle.chunked.specs.Names.{accepted_of, All-append, All-nil, chunk, ChunkedWriterState, ChunkingWent, ChunksWent, concat, concat-append, flat_map-append, IsCarried, PayloadWent, WriteLogGrows-joins, WriteLogGrows-none, WritesGoOn, WritesGoOn-of, WritesInOrder-joins, WritesInOrder-none}
-use Rattle.std.proofs.Common.{sym, ap, ◌∙◌, refl, append_assoc, append-nil}
+use Rattle.chunked.specs.Names.{All-append, All-nil, chunk, ChunkedWriterState, ChunkingWent, ChunksWent, concat, concat-append, flat_map-append, IsCarried, PayloadWent, WriteLogGrows-joins, WriteLogGrows-none, WritesGoOn, WritesGoOn-of, WritesInOrder-joins, WritesInOrder-none}
+use Rattle.std.proofs.Common.{◌∙◌, append_assoc, append-nil, arith, refl}
 
 module _ {S : Type 0} (trace : S → S → Type 0) (none : (x : S) → trace x x)
     (joins : (a b c : S) → trace a b → trace b c → trace a c) where
   -- no call takes in nothing, and two traces of calls join
   pub PayloadWent-none : (s : ChunkedWriterState S) → PayloadWent trace s [] [] s
-  PayloadWent-none s = record {
-    in_order = WritesInOrder-none s.writer;
-    wire = sym (append-nil s.wire);
-    accepted = sym (append-nil (accepted_of s));
-    calls = none s.writer.inner;
-    noted = refl;
-    capacity = refl;
-    limit = refl;
-  }
+  PayloadWent-none s = grind (arith, WritesInOrder-none, append-nil, none)
 
   pub PayloadWent-joins : (s m t : ChunkedWriterState S) (bytes more payload later : List ℕ)
       → PayloadWent trace s bytes payload m → PayloadWent trace m more later t
       → PayloadWent trace s (bytes ++ more) (payload ++ later) t
-  PayloadWent-joins s m t bytes more payload later p q = record {
-    in_order = WritesInOrder-joins s.writer m.writer t.writer bytes more p.in_order q.in_order;
-    wire = q.wire ∙ ap (λ l. l ++ more) p.wire ∙ append_assoc s.wire bytes more;
-    accepted = q.accepted ∙ ap (λ l. l ++ later) p.accepted ∙ append_assoc (accepted_of s) payload later;
-    calls = joins s.writer.inner m.writer.inner t.writer.inner p.calls q.calls;
-    noted = q.noted ∙ p.noted;
-    capacity = q.capacity ∙ p.capacity;
-    limit = q.limit ∙ p.limit;
-  }
+  PayloadWent-joins s m t bytes more payload later p q = grind (arith, WritesInOrder-joins, append_assoc, joins)
 
   pub ChunksWent-none : (s : ChunkedWriterState S) → ChunksWent trace s [] s
   ChunksWent-none s = record { carried = All-nil IsCarried; went = PayloadWent-none s; due = refl }

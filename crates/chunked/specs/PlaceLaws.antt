@@ -4,8 +4,7 @@ use Rattle.std.proofs.Common.{arith, refl}
 use Rattle.chunked.specs.Names.{Completes, Data, Done, Fields, HasFields, Limits, Line, Place}
 
 no_fields : (count room : ℕ) → HasFields count room [] → ⊥
-no_fields zero room odd = odd
-no_fields (suc count) room odd = odd
+no_fields count room odd = grind arith
 
 pub Completes-nothing : (limits : Limits) (p : Place) (payload : List ℕ) → Completes limits p [] payload → p ≡ Done
 Completes-nothing limits Line payload c = absurd c.chunks

@@ -1,6 +1,6 @@
 -- Laws of steps: what completes a body goes on from byte to byte, and what is wrong with a byte has one name and leads nowhere.
-use Rattle.std.proofs.Common.{◌≡◌, ◌≢◌, ℕ, zero, suc, ◌+◌, ◌*◌, ◌-◌, ◌<◌, ◌≤◌, ◌^◌, List, [], ◌∷◌, ◌++◌, length, sym, ap, subst, ◌∙◌, arith, inl, inr, refl}
-use Rattle.chunked.specs.Names.{AllByRecursion, Behind, behind_size, BehindFirst, BehindSize, chunked, Completes, CompletesSizeLine, Data, DataFeed, digit_value, Done, EndsLine, EndsNoExtension, Extension, FieldFeed, FieldName, Fields, FieldValue, IsDataOrDone, IsTrailers, IsValueByte, IsWrong, LastFeed, LeadsInExtension, Limits, Line, Malformed, most_between, nothing_behind, Place, RunsOver, Size, SizeFeed, StepsTo, Within, WrongInExtension}
+use Rattle.std.proofs.Common.{◌≡◌, ℕ, zero, suc, ◌+◌, ◌*◌, ◌-◌, ◌<◌, ◌≤◌, ◌^◌, List, [], ◌∷◌, ◌++◌, length, ap, subst, arith, inl, inr, refl}
+use Rattle.chunked.specs.Names.{AllByRecursion, Behind, behind_size, BehindFirst, BehindSize, chunked, Completes, CompletesSizeLine, Data, DataFeed, digit_value, Done, EndsLine, Extension, FieldFeed, FieldName, Fields, FieldValue, IsDataOrDone, IsTrailers, IsValueByte, IsWrong, LastFeed, LeadsInExtension, Limits, Line, Malformed, most_between, nothing_behind, Place, Size, SizeFeed, StepsTo, Within, WrongInExtension}
 use Rattle.body_reader.specs.Coding.{PassesOver}
 use Rattle.chunked.specs.FieldLaws.{BehindFirst-some, digit_is_text, token_is_text, token_plain, value_is_text}
 use Rattle.chunked.specs.WithinLaws.{CompletesExtension-text, extension_no_digit}
@@ -10,28 +10,18 @@ use Rattle.chunked.specs.PlaceLaws.{Completes-nothing}
 
 -- no digit leads on in an extension
 digit_ends : (b size room : ℕ) (q : Place) → digit_value b < 16 → LeadsInExtension Behind size room b q → ⊥
-digit_ends b size room q digit (inl s) = (digit_is_text b digit).0 s.0
-digit_ends b size room q digit (inr s) =
-    extension_no_digit b s.2.0 ((within.leads Behind b s.0 s.1 s.2.0).1 s.2.1) digit
+digit_ends b size room q digit s = grind (arith, digit_is_text, extension_no_digit, within.leads)
 
 module _ (limits : Limits) where
   -- with the byte in front, what completes the body there completes it here
   extension_on : (w : Within) (b size room : ℕ) (q : Place) (rest payload : List ℕ) → size < 2 ^ 62
       → LeadsInExtension w size room b q → Completes limits q rest payload
       → CompletesSizeLine limits w size room (b ∷ rest) payload
-  extension_on w b size room q rest payload small (inl s) c = (inl (s.0, s.1, (rw s.2 at c).0), small)
-  extension_on w b size room q rest payload small (inr s) c = (
-    inr (
-      omega (arith, s.2.2),
-      text_as _ _ _ (room - 1) rest (λ t e. (within.leads w b s.0 s.1 t).1 e) (rw s.3 at c).0,
-    ),
-    small,
-  )
+  extension_on w b size room q rest payload small s c = grind (arith, text_as, within.leads)
 
   pub behind_on : (size : ℕ) (rest payload : List ℕ) → Completes limits (behind_size limits size) rest payload
       → BehindSize limits size rest payload
-  behind_on zero rest payload c = c
-  behind_on (suc n) rest payload c = c
+  behind_on size rest payload c = grind arith
 
   pub step_on : (p : Place) (b : ℕ) (q : Place) (rest payload : List ℕ) → StepsTo limits p b q → Completes limits q rest payload
       → Completes limits p (b ∷ rest) payload
@@ -83,8 +73,7 @@ module _ (limits : Limits) where
 
   behind_first : (size : ℕ) (rest payload : List ℕ) → BehindSize limits size rest payload
       → Completes limits (behind_size limits size) rest payload
-  behind_first zero rest payload c = c
-  behind_first (suc n) rest payload c = c
+  behind_first size rest payload c = grind arith
 
   name_first : (b room : ℕ) (rest payload : List ℕ) → payload ≡ [] → 0 < room
       → (later : EndsLine (λ t. BehindFirst (b ∷ t)) IsTrailers (room - 1) rest) → (text : List ℕ)
@@ -146,11 +135,7 @@ module _ (limits : Limits) where
   -- it leads to one place
   one_extension : (w : Within) (b size room : ℕ) (q r : Place) → LeadsInExtension w size room b q
       → LeadsInExtension w size room b r → q ≡ r
-  one_extension w b size room q r (inl s) (inl t) = s.2 ∙ sym t.2
-  one_extension w b size room q r (inl s) (inr t) = absurd ((within.steps_text w b t.0 t.1).0 s.0)
-  one_extension w b size room q r (inr s) (inl t) = absurd ((within.steps_text w b s.0 s.1).0 t.0)
-  one_extension w b size room q r (inr s) (inr t) =
-      s.3 ∙ ap (λ v. Extension v size (room - 1)) (within.one_way w b s.0 t.0 s.1 t.1) ∙ sym t.3
+  one_extension w b size room q r s t = grind (arith, within.steps_text, within.one_way)
 
   pub one_place : (p : Place) (b : ℕ) (q r : Place) → StepsTo limits p b q → StepsTo limits p b r → q ≡ r
   one_place (Size number room) b q r (inr s) (inr t) = one_extension Behind b number room q r s.2 t.2
@@ -169,10 +154,7 @@ module _ (limits : Limits) where
   nearer p b q s = grind arith
 
   leads_open : (p : Place) (b : ℕ) (q : Place) → StepsTo limits p b q → ¬ IsDataOrDone p
-  leads_open (Data zero) b q s settled = settled
-  leads_open (Data (suc left)) b q s settled = omega (arith, s.0)
-  leads_open Done b q s settled = s
-  leads_open p b q s settled = settled
+  leads_open p b q s settled = grind arith
 
   one_within : (p : Place) (b : ℕ) (q : Place) → StepsTo limits p b q → (rest payload past : List ℕ)
       → Completes limits p rest payload → b ∷ [] ≡ rest ++ past → past ≡ []
@@ -195,10 +177,7 @@ module _ (limits : Limits) where
 
   -- what is wrong with a byte leads nowhere
   wrong_open : (p : Place) (b : ℕ) (why : Malformed) → IsWrong limits p b why → ¬ IsDataOrDone p
-  wrong_open (Data zero) b why wrong settled = settled
-  wrong_open (Data (suc left)) b why wrong settled = omega (arith, wrong.1)
-  wrong_open Done b why wrong settled = wrong
-  wrong_open p b why wrong settled = settled
+  wrong_open p b why wrong settled = grind arith
 
   wrong_extension : (w : Within) (b size room : ℕ) (why : Malformed) (q : Place) → WrongInExtension w room b why
       → ¬ LeadsInExtension w size room b q
@@ -225,18 +204,12 @@ module _ (limits : Limits) where
   -- nor does it complete the body
   pub IsWrong-none : (p : Place) (b : ℕ) (why : Malformed) (rest payload : List ℕ) → IsWrong limits p b why
       → ¬ Completes limits p (b ∷ rest) payload
-  IsWrong-none p b why rest payload wrong c =
-      let f = step_first p b rest payload (wrong_open p b why wrong) c in wrong_step p b why f.0 wrong f.1
+  IsWrong-none p b why rest payload wrong c = grind (arith, step_first, wrong_open, wrong_step)
 
   -- it has one name
   name_in_extension : (w : Within) (room b : ℕ) (one other : Malformed) → WrongInExtension w room b one
       → WrongInExtension w room b other → one ≡ other
-  name_in_extension w room b one other h k =
-      let no_feed : RunsOver w room b → b ≢ 10 =
-      λ over. (CompletesExtension-text w (b ∷ over.text) over.extends).0.1 in
-      let none : RunsOver w room b → ¬ EndsNoExtension w b = λ over bad. bad.none over.text over.extends in
-      let bad : EndsNoExtension w b → b ≢ 10 = λ bad. bad.no_feed in
-      grind (arith, no_feed, none, bad)
+  name_in_extension w room b one other h k = grind (arith, CompletesExtension-text)
 
   pub one_name : (p : Place) (b : ℕ) (w v : Malformed) → IsWrong limits p b w → IsWrong limits p b v → w ≡ v
   one_name (Size number room) b w v (inl h) (inl k) = grind (arith, h, k)

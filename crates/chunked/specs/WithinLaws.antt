@@ -89,8 +89,7 @@ parameters_first b (suc count) text left = parameter_first b count text left
 -- where this leads where a value may have ended
 step_on : (w : Within) (b : ℕ) (text : List ℕ) → (IsBlank b → LeadsWithin w b Blank) → ((b ≡ 59) → LeadsWithin w b BeforeName)
     → BeginsParameter b text → StepsOn w b text
-step_on w b text blanks signs (inl (blank, left)) = goes Blank (blanks blank) left
-step_on w b text blanks signs (inr (sign, left)) = goes BeforeName (signs sign) left
+step_on w b text blanks signs begins = grind arith
 
 -- where a byte leads behind a name
 name_on : (w : Within) (b : ℕ) (text : List ℕ) → (IsBlank b → LeadsWithin w b BehindName)
@@ -140,7 +139,7 @@ CompletesExtension-text w (b ∷ text) e =
 
 -- one begins with a blank or a `;`
 IsExtension-first : (b : ℕ) (text : List ℕ) → IsExtension (b ∷ text) → IsBlank b ⊎ (b ≡ 59)
-IsExtension-first b text e = elim (parameters_first b e.0 text e.1) [ inl blank ↦ inl blank.0 | inr sign ↦ inr sign.0 ]
+IsExtension-first b text e = grind (arith, parameters_first)
 
 -- so none begins with a digit
 pub extension_no_digit : (b : ℕ) (text : List ℕ) → IsExtension (b ∷ text) → digit_value b < 16 → ⊥
