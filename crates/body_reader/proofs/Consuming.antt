@@ -19,11 +19,7 @@ module _ {S Q C P W : Type 0} (remaining : S → Option (List ℕ)) (rules : Rea
     (front : TakesFront remaining rules g n r p k r' q k') (calls' : StreamLog)
     (noted : calls' ≡ after_read calls (take n r.block.bytes) (Ok n)) where
   given : calls'.reads.given ≡ calls.reads.given ++ take n r.block.bytes
-  given =
-      let long : length (take n r.block.bytes) ≡ n = length-take-le n r.block.bytes (omega (arith, few, is.known.0)) in
-      let whole : take n (take n r.block.bytes) ≡ take n r.block.bytes =
-      subst (λ j. take j (take n r.block.bytes) ≡ take n r.block.bytes) long (take-length (take n r.block.bytes)) in
-      ap (λ l. l.reads.given) noted ∙ ap (λ l. calls.reads.given ++ l) whole
+  given = grind (arith, length-take-le, take-length)
 
   consumed_is : IsBodyReader g (seen r' c q calls' k')
   consumed_is = state_is front.takes given is front.known
@@ -48,13 +44,4 @@ module _ {S Q C P W : Type 0} (remaining : S → Option (List ℕ)) (rules : Rea
   -- none is
   pub consumes_none : (g : Grammar P W) (count : ℕ) (d : BodyState S Q C P) → IsBodyReader g d → min count d.known ≡ 0
       → ConsumesPayload remaining rules g count d d
-  consumes_none g count d is none = record {
-    went = subst (λ j. BodyWent remaining rules g d (take j d.reader.block.bytes) d) (sym none)
-        (BodyWent-none remaining rules g d);
-    consumed = λ some. absurd (omega (arith, some, none));
-    left = omega (arith, none);
-    idle = λ _. refl;
-    told = refl;
-    noted = (λ some. absurd (omega (arith, some, none)), λ _. refl);
-    whole = is;
-  }
+  consumes_none g count d is none = grind (arith, BodyWent-none)

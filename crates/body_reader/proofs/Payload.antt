@@ -29,16 +29,7 @@ module _ {S Q C P W : Type 0} {remaining : S → Option (List ℕ)} {rules : Rea
     (given : calls'.reads.given ≡ calls.reads.given ++ handed) where
   pub state_is : IsBodyReader g (seen r c p calls k) → IsKnown g q.place k' r'.block.bytes
       → IsBodyReader g (seen r' c q calls' k')
-  state_is is known =
-      let order = takes.along.in_order in
-      let joined = Leads-then g g.first p.place q.place p.taken.log.fills.consumed wire calls.reads.given handed
-      r.block.bytes order.got r'.block.bytes order.equal is.leads takes.leads in
-      record {
-        leads = rw (takes.taken, given) joined;
-        place = takes.place;
-        room = omega (arith, is.room, takes.along.capacity);
-        known = known;
-      }
+  state_is is known = grind (arith, Leads-then)
 
   pub state_went : BodyWent remaining rules g (seen r c p calls k) handed (seen r' c q calls' k')
   state_went = record {
@@ -201,13 +192,4 @@ module _ {S Q C P W : Type 0} (remaining : S → Option (List ℕ)) (rules : Rea
 -- payload was known
 pub fill_known : {S Q C P W : Type 0} (remaining : S → Option (List ℕ)) (rules : ReadRules Q) (g : Grammar P W)
     (d : BodyState S Q C P) → IsBodyReader g d → 0 < d.known → FillsPayload remaining rules g d (Ok d.known) d
-fill_known remaining rules g d is some = record {
-  went = BodyWent-none remaining rules g d;
-  answers = (refl, EachGave-none d.reader, λ none. absurd (omega (arith, some, none)));
-  all = λ _ none. absurd (omega (arith, some, none));
-  asked = inl refl;
-  passes = PassesTo-none;
-  still = λ _. refl;
-  noted = refl;
-  whole = is;
-}
+fill_known remaining rules g d is some = grind (arith, BodyWent-none, EachGave-none, PassesTo-none)

@@ -155,8 +155,7 @@ module _ {S Q P W : Type 0} (remaining : S → Option (List ℕ)) (rules : ReadR
         -- of so many bytes those that are buffered are shown
         pub shows_here : (bytes shown : List ℕ) → shown ≡ take (min n m.block.capacity) bytes
             → length shown ≡ min n (length bytes)
-        shows_here bytes shown same =
-            omega (arith, ap length same, length-take (min n m.block.capacity) bytes, so.room, lacks.most)
+        shows_here bytes shown same = grind (arith, length-take)
 
         module _ {A : Type 0} (u : Buffered S Q) where
           module _ (answer : Result A Error) (ahead' : ReadsAhead remaining rules (min n m.block.capacity) m answer u) where

@@ -1,5 +1,5 @@
 -- Laws of bodies that are just some bytes, or else end at a delimiter.
-use Rattle.std.proofs.Common.{◌≡◌, ℕ, ◌+◌, ◌<◌, ◌≤◌, List, [], ◌++◌, length, take, drop, inl, inr, sym, ap, refl, subst, ◌∙◌, arith, append_assoc, append-nil, length-append}
+use Rattle.std.proofs.Common.{◌≡◌, ℕ, ◌+◌, ◌<◌, ◌≤◌, List, [], ◌++◌, length, take, drop, inl, inr, sym, ap, refl, subst, ◌∙◌, arith, append_assoc, append-nil, length-append, rules}
 use Rattle.std.proofs.lemmas.List.{nil_from_length, take-append-drop, take_at}
 use Rattle.body_reader.specs.declared.coding.Look.{Look}
 use Rattle.body_reader.specs.declared.coding.Look.TheVariants as look
@@ -63,48 +63,14 @@ module _ (just needle : List ℕ) (room : ℕ) (some : 0 < length just) (shorter
 
   -- what begins with just the bytes is these
   just_passes : (follow : List ℕ) → PassesOver (just_or_until just needle room) at.Start just at.Just follow
-  just_passes follow = record {
-    leads = record {
-      onward = λ rest payload agree c.
-          inl (ap (λ l. just ++ l) c.0 ∙ append-nil just, c.1);
-      back = λ rest whole agree c. elim c [
-        | inl here ↦ (
-          [],
-          here.1,
-          (nil_from_length rest (omega (arith, ap length here.0, length-append just rest)), refl),
-        )
-        | inr there ↦ absurd (there.0 rest refl)
-      ];
-      within = λ rest payload past c same. nil_from_length past (elim c [
-        | inl here ↦ omega (arith, ap length same, ap length here.0, length-append rest past)
-        | inr there ↦ absurd (omega (
-          arith,
-          ap length same,
-          ap length there.1.0,
-          shorter,
-          length-append rest past,
-          length-append payload needle,
-        ))
-      ]);
-    };
-    few = omega (arith, shorter);
-  }
+  just_passes follow = grind (arith, append-nil, nil_from_length, length-append)
 
   start_goes_on : ¬ IsDone (just_or_until just needle room) at.Start
   start_goes_on done = grind arith
 
   pub looks_just : (shown more : List ℕ) → shown ≡ just ++ more
       → Looks (just_or_until just needle room) at.Start shown (look.Passed (length just) at.Just)
-  looks_just shown more same = (
-    some,
-    omega (arith, ap length same, length-append just more),
-    subst (λ l. PassesOver (just_or_until just needle room) at.Start l at.Just (drop (length just) shown))
-        (sym (ap (take (length just)) same ∙ take_at just more (length just) refl))
-        (just_passes (drop (length just) shown)),
-    tt,
-    start_goes_on,
-    λ why wrong. wrong,
-  )
+  looks_just shown more same = grind (arith, just_passes, start_goes_on, take_at, length-append)
 
   -- the beginning of just the bytes settles nothing
   begun_open : (shown rest : List ℕ) → just ≡ shown ++ rest → length shown < length just
@@ -169,14 +135,4 @@ module _ (just needle : List ℕ) (room : ℕ) (some : 0 < length just) (shorter
   just_unsure at.Just n c = c.carries [] [] [] (omega arith) refl
 
   pub just_or_until_lawful : IsLawful (just_or_until just needle room)
-  just_or_until_lawful = record {
-    some = omega (arith, shorter, fits);
-    begins = tt;
-    alive = λ place is. just_alive place;
-    nothing = λ place payload is c. just_nothing place payload c;
-    never = λ place shown why rest payload is wrong c agree. wrong;
-    reason = λ place shown why other is wrong. absurd wrong;
-    stays = λ place shown more why is wrong. wrong;
-    sure = λ place n is c. absurd (just_unsure place n c);
-    one = λ a b x y xs ys p q same. only_one a b x y xs ys p q same;
-  }
+  just_or_until_lawful = search (rules, just_alive, just_nothing, just_unsure, only_one, arith)

@@ -1,5 +1,5 @@
 -- Laws of bodies that end at a delimiter.
-use Rattle.std.proofs.Common.{◌≡◌, ℕ, ◌+◌, ◌-◌, ◌<◌, ◌≤◌, List, [], ◌∷◌, ◌++◌, length, take, drop, inl, inr, sym, ap, refl, subst, ◌∙◌, arith, append_assoc, append-nil, length-append}
+use Rattle.std.proofs.Common.{◌≡◌, ℕ, ◌+◌, ◌-◌, ◌<◌, ◌≤◌, List, [], ◌∷◌, ◌++◌, length, take, drop, inl, inr, sym, ap, refl, subst, ◌∙◌, arith, append_assoc, append-nil, length-append, rules}
 use Rattle.std.proofs.Math.Seq.{take-append-add}
 use Rattle.std.proofs.lemmas.Bool.{cases_lt}
 use Rattle.std.proofs.lemmas.List.{append_cancel_left, length-take-le, nil_from_length, take-append-drop, take-append-le}
@@ -90,37 +90,12 @@ module _ (needle : List ℕ) (some : 0 < length needle) where
       absurd (c.1 0 (omega arith) (omega arith) (OccursAt-more needle rest needle 0 (OccursAt-self needle)))
 
   end_passes : (follow : List ℕ) → PassesOver (until needle) Inside needle Behind follow
-  end_passes follow = record {
-    leads = record {
-      onward = λ rest payload agree c. (
-        ap (λ l. needle ++ l) c.0 ∙ append-nil needle ∙ ap (λ l. l ++ needle) (sym c.1),
-        λ k low high occurs. absurd (omega (arith, high, ap length c.1)),
-      );
-      back = λ rest whole agree c. end_back rest whole c;
-      within = λ rest payload past c same.
-          nil_from_length past (omega (
-            arith,
-            ap length same,
-            ap length c.0,
-            length-append rest past,
-            length-append payload needle,
-          ));
-    };
-    few = omega arith;
-  }
+  end_passes follow = grind (arith, append-nil, nil_from_length, length-append, end_back)
 
   -- what a look answers
   pub looks_end : (shown : List ℕ) → OccursAt shown needle 0
       → Looks (until needle) Inside shown (look.Passed (length needle) Behind)
-  looks_end shown here = (
-    some,
-    omega (arith, here.fits),
-    subst (λ l. PassesOver (until needle) Inside l Behind (drop (length needle) shown)) (sym (OccursAt-front shown needle here))
-        (end_passes (drop (length needle) shown)),
-    tt,
-    inside_open,
-    λ why wrong. wrong,
-  )
+  looks_end shown here = grind (arith, end_passes, OccursAt-front, inside_open)
 
   looks_payload : (shown : List ℕ) (n : ℕ) → 0 < n
       → ((more : List ℕ) → Nowhere (OccursAt (shown ++ more) needle) 0 n) → Carries (until needle) Inside n shown
