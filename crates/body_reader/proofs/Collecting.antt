@@ -35,7 +35,7 @@ module _ {S Q C P W : Type 0} {remaining : S → Option (List ℕ)} {rules : Rea
     {Allowed : List ℕ → Type 0} {most : ℕ} {s : BodyState S Q C P} {before : List ℕ} {m : BodyState S Q C P} {all : List ℕ}
     (so : Collected remaining rules (grammar s.coding) Allowed most s before m all) where
   lets : Allowed (before ++ so.payload)
-  lets = subst Allowed so.collected so.allowed
+  lets = grind arith
 
   -- a fill ends that
   ends : {n : Result ℕ (BodyError W)} {f : BodyState S Q C P} → FillsPayload remaining rules (grammar m.coding) m n f
@@ -92,11 +92,6 @@ module _ {S Q C P W : Type 0} {remaining : S → Option (List ℕ)} {rules : Rea
           payload = so.payload ++ piece;
           taken = takes_more grammar so.taken fills lets some lawful t takes;
           collected = ap (λ l. l ++ piece) so.collected ∙ append_assoc before so.payload piece;
-          few = λ _. omega (
-            arith,
-            fits_so,
-            length-append all piece,
-            length-take-le f.known f.reader.block.bytes (fills_here grammar so.taken fills).whole.known.0,
-          );
+          few = λ _. grind (arith, fits_so, fills_here grammar so.taken fills, length-append, length-take-le);
           allowed = allowed;
         }

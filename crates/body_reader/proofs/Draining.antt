@@ -57,12 +57,5 @@ module _ {S Q C P W : Type 0} {remaining : S → Option (List ℕ)} {rules : Rea
   dropped_more {n} {f} fills some lawful t takes = record {
     payload = so.payload ++ take f.known f.reader.block.bytes;
     taken = takes_more grammar so.taken fills tt some lawful t takes;
-    many = omega (
-      arith,
-      so.many,
-      some,
-      fills.answers.0,
-      length-append so.payload (take f.known f.reader.block.bytes),
-      length-take-le f.known f.reader.block.bytes (fills_here grammar so.taken fills).whole.known.0,
-    );
+    many = grind (arith, fills_here grammar so.taken fills, length-append, length-take-le);
   }

@@ -106,23 +106,7 @@ module _ {S Q P W : Type 0} (remaining : S → Option (List ℕ)) (rules : ReadR
       still : TakesBytes remaining rules g s p [] [] t p
       still =
           let once = reads.read.read room in
-          TakesBytes-still place (record {
-            in_order = order;
-            known = reads.known;
-            grows = reads.grows;
-            capacity = omega (arith, once.added.capacity);
-            claims = ap rules.claims reads.policy;
-          }) (record {
-            kind = once.added.kind;
-            room = λ _. (once.added.capacity, once.added.limit);
-            still = λ _ same. absurd (omega (arith, same, ap (λ l. l.reads.asks) once.told));
-            unmoved = λ _ _ plain. omega (
-              arith,
-              of_plain s.block.kind (t.block.moved ≡ s.block.moved) (s.block.moved ≤ t.block.moved) plain once.added.moved,
-            );
-            spared = λ keep high claims. spared keep;
-            noted = reads.noted;
-          })
+          TakesBytes-still place (grind arith) (grind (arith, of_plain))
 
       offers : min slice (g.sure p.place) ≤ length (reads.read.read room).out
       offers = omega (arith, fits, looks.1, (reads.read.read room).offered)

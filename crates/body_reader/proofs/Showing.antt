@@ -127,8 +127,7 @@ module _ {S Q P W : Type 0} (remaining : S → Option (List ℕ)) (rules : ReadR
           within = so.within;
           known = so.known;
           left = so.left;
-          consumed = λ some few. subst (λ n. ReaderConsumes rules n s m) all
-              (so.consumed (omega (arith, all, some)) (omega (arith, all, few)));
+          consumed = λ some few. grind arith;
           idle = so.idle;
           full = inl all;
           all = inl all;
@@ -216,21 +215,8 @@ module _ {S Q P W : Type 0} (remaining : S → Option (List ℕ)) (rules : ReadR
             known = front.known;
             left = λ few. omega (arith, some, front.left, kept, so.left (omega (arith, few)), few);
             fresh = λ none. absurd (omega (arith, none, some));
-            consumed = λ _ few.
-                let known : 0 < k = omega (arith, some, few, so.left (omega (arith, few))) in
-                let none : handed ≡ 0 = so.first room known in
-                let same : f ≡ s = (finds.kept known).0 ∙ (so.fresh none).0 in
-                let all : n ≡ handed + n = omega (arith, none) in
-                subst (λ j. ReaderConsumes rules j s t) all (subst (λ x. ReaderConsumes rules n x t) same front.consumed);
-            first = λ short left. absurd (omega (
-              arith,
-              count,
-              short,
-              left,
-              front.left,
-              long,
-              length-append (take handed out) rest,
-            ));
+            consumed = λ _ few. grind arith;
+            first = λ short left. grind (arith, length-append (take handed out) rest);
             idle = λ either. elim either [
               | inl done ↦ absurd (goes_on (omega (arith, some, count)) done)
               | inr empty ↦ absurd (omega (arith, some, count, empty, length-append (take handed out) rest))

@@ -25,9 +25,7 @@ pub record Notes {P : Type 0} (p : Progress P) (there : P) (bytes : List ℕ) (q
 -- the first bytes were consumed, and what is buffered of them is what stood behind
 pub consumes_left : {S Q : Type 0} (rules : ReadRules Q) (n : ℕ) (s t : Buffered S Q) → n ≤ length s.block.bytes
     → ReaderConsumes rules n s t → t.block.bytes ≡ drop n s.block.bytes
-consumes_left rules n s t held gone =
-    let all : min n (length s.block.bytes) ≡ n = omega (arith, held) in
-    gone.told_policy.law.bytes ∙ gone.dropped.bytes ∙ ap (λ j. drop j s.block.bytes) all
+consumes_left rules n s t held gone = grind arith
 
 pub consumes_keeps : {S Q : Type 0} (remaining : S → Option (List ℕ)) (rules : ReadRules Q) (least n : ℕ) (s t : Buffered S Q)
     → ReaderConsumes rules n s t → ReaderKeeps remaining rules s t → KeepsBuffer rules least s t
@@ -35,8 +33,7 @@ consumes_keeps remaining rules least n s t gone keeps = grind (arith, of_plain)
 
 pub consumes_parts : {S Q : Type 0} (rules : ReadRules Q) (n : ℕ) (s t : Buffered S Q) → n ≤ length s.block.bytes
     → ReaderConsumes rules n s t → take n s.block.bytes ++ t.block.bytes ≡ s.block.bytes
-consumes_parts rules n s t held gone =
-    ap (λ l. take n s.block.bytes ++ l) (consumes_left rules n s t held gone) ∙ take-append-drop n s.block.bytes
+consumes_parts rules n s t held gone = grind (arith, consumes_left, take-append-drop)
 
 -- through the buffer
 pub consumes_through : {S Q : Type 0} (rules : ReadRules Q) (n : ℕ) (s t : Buffered S Q) → n ≤ length s.block.bytes
@@ -99,16 +96,7 @@ module _ {S Q P W : Type 0} (remaining : S → Option (List ℕ)) (rules : ReadR
             );
             passes = PassesTo-joins so.passes (subst (PassesTo remaining rules g m q.place t) (sym notes.place)
                 (PassesTo-once (inl (n, looks, gone))));
-            spends = omega (
-              arith,
-              so.spends,
-              looks.2.few,
-              length-take-le n m.block.bytes looks.1,
-              ap g.between notes.place,
-              ap length (consumes_left rules n m t looks.1 gone),
-              length-drop n m.block.bytes,
-              looks.1,
-            );
+            spends = grind (arith, consumes_left, length-take-le, length-drop);
             idle = λ done. absurd (looks.4 (subst (λ x. IsDone g x.place) (sym (so.idle done).1) done));
           }
 

@@ -95,17 +95,7 @@ module _ {S Q A : Type 0} {remaining : S → Option (List ℕ)} {rules : ReadRul
           (OnlyRingMoves-none s.block)
       | inr over ↦ absurd (omega (arith, over.some, same))
     ];
-    unmoved = λ _ small plain. elim ahead.asked [
-      | inl none ↦ omega (arith, ap (λ x. x.block.moved) (unasked remaining rules n s answer t ahead none))
-      | inr over ↦ omega (
-        arith,
-        of_plain s.block.kind (t.block.moved ≤ s.block.moved + length s.block.bytes) ⊤ plain ahead.moves.once,
-        over.few,
-        few,
-        small,
-        length-append s.block.bytes over.came,
-      )
-    ];
+    unmoved = λ _ small plain. grind (arith, unasked, of_plain, length-append);
     spared = λ keep high claims. ahead.sparing keep (omega (arith, few, high));
     noted = ahead.noted;
   }
@@ -129,8 +119,7 @@ module _ {S Q A P W : Type 0} {remaining : S → Option (List ℕ)} {rules : Rea
     {s : Buffered S Q} {answer : Result A Error} {t : Buffered S Q} (lacks : IsOpenBelow g p n s.block.bytes)
     (ahead : ReadsAhead remaining rules n s answer t) where
   pub ReadsAhead-asks : AskedWhere (IsOpen g p) (unbuffered s) (unbuffered t)
-  ReadsAhead-asks = AskedWhere-of (λ bytes. length bytes < n) (IsOpen g p) (unbuffered s) (unbuffered t) lacks.is_open
-      (ReadsAhead-asked ahead)
+  ReadsAhead-asks = grind (arith, AskedWhere-of, ReadsAhead-asked)
 
   pub ReadsAhead-open : length t.block.bytes < n → IsOpen g p t.block.bytes
   ReadsAhead-open few = grind (arith, length-append)

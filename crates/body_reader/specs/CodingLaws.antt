@@ -205,8 +205,7 @@ module _ {P W : Type 0} (g : Grammar P W) where
 
   -- bytes of which fewer than n settle nothing settle nothing
   pub IsOpenBelow-open : (p : P) (n : ℕ) (bytes : List ℕ) → IsOpenBelow g p n bytes → IsOpen g p bytes
-  IsOpenBelow-open p n bytes lacks =
-      subst (IsOpen g p) (append-nil bytes) (lacks.is_open [] (omega (arith, lacks.few, ap length (append-nil bytes))))
+  IsOpenBelow-open p n bytes lacks = grind (arith, append-nil)
 
   -- where the body goes on, no byte settles nothing
   pub open_at : IsLawful g → (p : P) → g.is_place p → ¬ IsDone g p → (bytes : List ℕ) → length bytes < 1 → IsOpen g p bytes
