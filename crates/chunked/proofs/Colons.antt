@@ -45,10 +45,7 @@ field_splits (b ∷ text) (suc end) is before (token, more) =
 
 pub splits_field : (line : List ℕ) (end : ℕ) → end < length line → slice_index line end ≡ 58 → Splits line end
     → 0 < length (take end line) → IsField line
-splits_field [] end within is s some = absurd (omega (arith, within))
-splits_field (b ∷ text) zero within is s some = absurd (omega (arith, some))
-splits_field (b ∷ text) (suc end) within is s some =
-    (s.0.0, splits_behind text end (omega (arith, within)) is (s.0.1, s.1))
+splits_field line end within is s some = grind (arith, splits_behind)
 
 no_colon : (text : List ℕ) → NoColonBefore text (length text) → BehindFirst text → ⊥
 no_colon [] none odd = odd
@@ -57,12 +54,10 @@ no_colon (b ∷ text) none (inl (colon, all)) =
 no_colon (b ∷ text) none (inr (token, more)) = no_colon text (later b text (length text) none) more
 
 pub field_has_colon : (line : List ℕ) → NoColonBefore line (length line) → IsField line → ⊥
-field_has_colon [] none odd = odd
-field_has_colon (b ∷ text) none (token, more) = no_colon text (later b text (length text) none) more
+field_has_colon line none h = grind (arith, no_colon, later)
 
 not_true : (test : Bool) → ¬ (test ≡ true) → test ≡ false
-not_true true odd = absurd (odd refl)
-not_true false odd = refl
+not_true test not = grind arith
 
 -- the name stands in front of it
 pub first_colon : (line : List ℕ) (end : ℕ) → end < length line → slice_index line end ≡ 58 → NoColonBefore line end

@@ -28,10 +28,7 @@ front_more fields i within = rw (take_more fields i [] within, flat_map-append) 
 
 pub front_more_len : (fields : List (List ℕ)) (i : ℕ) → i < length fields
     → length (front (take (i + 1) fields)) ≡ length (front (take i fields)) + length (get_or fields i []) + 2
-front_more_len fields i within =
-    ap length (front_more fields i within)
-    ∙ length-append (front (take i fields) ++ get_or fields i []) (line_end [])
-    ∙ ap (λ n. n + 2) (length-append (front (take i fields)) (get_or fields i []))
+front_more_len fields i within = grind (arith, front_more, length-append)
 
 -- each of them is a line that trailers may have
 one_more : (fields : List (List ℕ)) (field : List ℕ) → AllByRecursion IsTrailer fields → IsTrailer field

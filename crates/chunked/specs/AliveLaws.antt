@@ -13,11 +13,7 @@ module _ (limits : Limits) where
 
   -- from where a byte leads to such a place
   before : (p : Place) (b : ℕ) (q : Place) → StepsTo limits p b q → Completed q → Completed p
-  before p b q s c = record {
-    rest = b ∷ c.rest;
-    payload = c.payload;
-    completes = step_on limits p b q c.rest c.payload s c.completes;
-  }
+  before p b q s c = grind (arith, step_on)
 
   last : Completed LastFeed
   last = record { rest = 10 ∷ []; payload = []; completes = (refl, (refl, refl)) }

@@ -1,7 +1,7 @@
 -- A law of bodies: bytes are one in one way.
-use Rattle.std.specs.Prelude.{◌≡◌, ℕ, suc, zero, ◌≤◌, ◌-◌, max, List, [], ◌∷◌, ◌++◌}
+use Rattle.std.specs.Prelude.{◌≡◌, ℕ, suc, zero, ◌≤◌, max, List, [], ◌∷◌, ◌++◌}
 use Rattle.std.proofs.Common.{sym, ap, subst, ◌∙◌, arith}
-use Rattle.chunked.specs.Names.{Completes, Data, digit_value, Done, HasChunks, HasFields, IsBodyOfChunks, IsField, Limits, Line, Place, SizeLine}
+use Rattle.chunked.specs.Names.{Completes, Data, Done, HasChunks, HasFields, IsBodyOfChunks, IsField, Limits, Line, Place, SizeLine}
 use Rattle.chunked.specs.LineLaws.{line_wide, size_as}
 use Rattle.chunked.specs.PlaceLaws.{Completes-nothing}
 use Rattle.chunked.specs.StepLaws.{one_place, step_first}
@@ -37,9 +37,7 @@ fields_wide (suc count) room more bytes wide line =
 
 line_of_size_wide : (G H : ℕ → List ℕ → Type 0) → ((size : ℕ) (behind : List ℕ) → G size behind → H size behind)
     → (room more : ℕ) (bytes : List ℕ) → room ≤ more → SizeLine G room bytes → SizeLine H more bytes
-line_of_size_wide G H on room more [] wide odd = odd
-line_of_size_wide G H on room more (b ∷ rest) wide (digit, line) =
-    (digit, size_as G H on (digit_value b) (room - 1) (more - 1) rest (omega (arith, wide)) line)
+line_of_size_wide G H on room more bytes wide line = grind (arith, size_as)
 
 module _ (l m : Limits) (line : l.line ≤ m.line) (trailers : l.trailers ≤ m.trailers) where
   chunks_wide : (ps : List (List ℕ)) (size : ℕ) (bytes : List ℕ) → HasChunks l ps size bytes → HasChunks m ps size bytes
@@ -54,12 +52,7 @@ module _ (l m : Limits) (line : l.line ≤ m.line) (trailers : l.trailers ≤ m.
   )
 
   body_wide : (bytes payload : List ℕ) → IsBodyOfChunks l bytes payload → IsBodyOfChunks m bytes payload
-  body_wide bytes payload body = record {
-    payloads = body.payloads;
-    chunks = line_of_size_wide (HasChunks l body.payloads) (HasChunks m body.payloads) (chunks_wide body.payloads) l.line
-        m.line bytes line body.chunks;
-    equal = body.equal;
-  }
+  body_wide bytes payload body = grind (arith, line_of_size_wide, chunks_wide)
 
 -- no body begins another
 pub IsBodyOfChunks-same : (l m : Limits) (a b p q xs ys : List ℕ) → IsBodyOfChunks l a p → IsBodyOfChunks m b q

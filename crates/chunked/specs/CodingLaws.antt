@@ -1,5 +1,5 @@
 -- Laws of the chunked coding.
-use Rattle.std.proofs.Common.{◌≡◌, ◌≢◌, ℕ, zero, suc, ◌+◌, ◌-◌, ◌<◌, ◌≤◌, List, [], ◌∷◌, ◌++◌, length, replicate, take, drop, slice_index, Some, IfSome, sym, ap, subst, ◌∙◌, arith, inl, inr, refl, append-nil, length-append}
+use Rattle.std.proofs.Common.{◌≡◌, ◌≢◌, ℕ, zero, suc, ◌+◌, ◌-◌, ◌<◌, ◌≤◌, List, [], ◌∷◌, ◌++◌, length, replicate, take, Some, sym, ap, subst, ◌∙◌, arith, refl, append-nil, length-append}
 use Rattle.chunked.specs.Names.{Advances, BreaksAt, chunk_left, chunked, Comes, Completes, CompletesData, Data, Done, drop_more, IsDataOrDone, IsOpenBelow-one, IsPlace, IsWrong, IsWrongNext, length-replicate, Limits, line_end, Malformed, nil_from_length, Place}
 use Rattle.body_reader.specs.declared.Look.TheVariants as look
 use Rattle.body_reader.specs.BodyReader.{BodyState, IsBodyReader}
@@ -18,8 +18,7 @@ follows rest = (rest, [], sym (append-nil rest))
 
 module _ (limits : Limits) where
   nothing : (p : Place) (payload : List ℕ) → Completes limits p [] payload → payload ≡ []
-  nothing p payload c =
-      (subst (λ x. Completes limits x [] payload) (Completes-nothing limits p payload c) c).0
+  nothing p payload c = grind (arith, Completes-nothing)
 
   -- what is wrong completes no body
   never : (p : Place) (byte : ℕ) (why : Malformed) (rest payload later x y : List ℕ) → IsWrong limits p byte why
@@ -41,9 +40,7 @@ module _ (limits : Limits) where
 
   -- nor any where none is
   pub none_left : (p : Place) → ¬ IsDataOrDone p → chunk_left p ≡ 0
-  none_left (Data zero) open' = refl
-  none_left (Data (suc left)) open' = absurd (open' tt)
-  none_left p open' = refl
+  none_left p open' = grind arith
 
   pub chunked_lawful : body.IsLawful (chunked limits)
   chunked_lawful = record {
@@ -64,10 +61,10 @@ module _ (limits : Limits) where
   }
 
   not_done : (p : Place) → p ≢ Done → ¬ (Completes limits p [] [])
-  not_done p open' c = open' (Completes-nothing limits p [] c)
+  not_done p open' c = grind (arith, Completes-nothing)
 
   pub data_open : (left : ℕ) → ¬ (Completes limits (Data left) [] [])
-  data_open left = not_done (Data left) (λ is. let odd : Data left ≡ Done = is in cc)
+  data_open left = grind (arith, not_done)
 
   -- the bytes of a chunk lead on in it
   data_on : (bytes : List ℕ) (left n : ℕ) (rest payload : List ℕ) → length bytes + n ≡ left
@@ -105,8 +102,7 @@ module _ (limits : Limits) where
 
   -- where a payload or nothing comes next
   pub settled_some : (left : ℕ) → IsDataOrDone (Data left) → 0 < left
-  settled_some zero settled = absurd settled
-  settled_some (suc left) settled = omega arith
+  settled_some left settled = grind arith
 
   pub open_of : (p : Place) → ¬ IsDataOrDone p → p ≢ Done
   open_of p goes_on is = goes_on (subst IsDataOrDone (sym is) tt)
@@ -124,16 +120,7 @@ module _ (limits : Limits) where
   -- what a look answers
   pub looks_data : (left : ℕ) (shown : List ℕ) → 0 < left
       → body.Looks (chunked limits) (Data left) shown (look.Payload left)
-  looks_data left shown some = (
-    record {
-      some = some;
-      goes_on = not_done (Data left) (λ is. let odd : Data left ≡ Done = is in cc);
-      carries = λ bytes follow more few same. few;
-    },
-    omega arith,
-    inl refl,
-    λ why wrong. omega (arith, some, wrong.3.1),
-  )
+  looks_data left shown some = grind (arith, data_open)
 
   pub looks_none : (p : Place) (shown : List ℕ) → IsPlace p → ¬ IsDataOrDone p → shown ≡ []
       → body.Looks (chunked limits) p shown (look.More 1)
@@ -156,19 +143,7 @@ module _ (limits : Limits) where
   -- where nothing was taken, and nothing is wrong, nothing was shown
   pub looks_wrong : (p : Place) (shown : List ℕ) (r : Reached) (why : Malformed) → p ≢ Done → Advances limits p shown r
       → r.taken ≡ 0 → r.wrong ≡ Some why → body.Looks (chunked limits) p shown (look.Wrong why)
-  looks_wrong p shown r why open' reached none is =
-      let here : r.place ≡ p = elim reached.begun [ inl some ↦ absurd (omega (arith, some, none)) | inr same ↦ same ] in
-      let found : (r.taken < length shown) × IsWrong limits r.place (slice_index shown r.taken) why =
-      subst (λ o. IfSome o (λ w. (r.taken < length shown) × IsWrong limits r.place (slice_index shown r.taken) w)) is
-      reached.wrong in (
-        (
-          slice_index shown r.taken,
-          drop (r.taken + 1) shown,
-          ap (λ n. drop n shown) (sym none) ∙ drop_more shown r.taken 0 found.0,
-          subst (λ x. IsWrong limits x (slice_index shown r.taken) why) here found.1,
-        ),
-        not_done p open',
-      )
+  looks_wrong p shown r why open' reached none is = grind (arith, drop_more, not_done)
 
 -- where the next byte is wrong, no body begins with what was taken and then that byte
 pub breaks_at : {S Q : Type 0} (d : BodyState S Q Chunked Place) → IsBodyReader (chunked d.coding.0) d → (why : Malformed)

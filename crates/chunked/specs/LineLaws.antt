@@ -37,7 +37,7 @@ line_as P Q G H room rest as' on line =
 
 pub text_as : (P Q : List ℕ → Type 0) (G : ℕ → List ℕ → Type 0) (room : ℕ) (rest : List ℕ)
     → ((text : List ℕ) → P text → Q text) → EndsLine P G room rest → EndsLine Q G room rest
-text_as P Q G room rest as' line = line_as P Q G G room rest as' (λ left behind goes_on. goes_on) line
+text_as P Q G room rest as' line = grind (arith, line_as)
 
 -- and it is one with more room
 pub line_wide : (P : List ℕ → Type 0) (G : ℕ → List ℕ → Type 0) (room more : ℕ) (rest : List ℕ) → room ≤ more
@@ -139,12 +139,7 @@ module _ (limits : Limits) where
 
   pub digit_first : (b : ℕ) (rest payload : List ℕ) → IsBodyOfChunks limits (b ∷ rest) payload → (digit_value b < 16)
       × EndsSize (λ size behind. BehindSize limits size behind payload) (digit_value b) (limits.line - 1) rest
-  digit_first b rest payload body = (
-    body.chunks.0,
-    size_as (HasChunks limits body.payloads) (λ size behind. BehindSize limits size behind payload)
-        (by_size body.payloads payload body.equal) (digit_value b) (limits.line - 1) (limits.line - 1) rest (omega arith)
-        body.chunks.1,
-  )
+  digit_first b rest payload body = grind (arith, size_as, by_size)
 
 -- the first byte of a line of the trailers, or of the empty one
 pub field_on : (b room : ℕ) (rest : List ℕ) → IsTokenByte b → 2 ≤ room → EndsLine BehindFirst IsTrailers (room - 1) rest

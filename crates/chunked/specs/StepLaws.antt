@@ -164,16 +164,7 @@ module _ (limits : Limits) where
       nothing_behind rest past (let tail : rest ++ past ≡ [] = cc in tail)
 
   pub passes : (p : Place) (b : ℕ) (q : Place) → StepsTo limits p b q → PassesOver (chunked limits) p (b ∷ []) q []
-  passes p b q s = record {
-    leads = record {
-      onward = λ rest payload agree c. step_on p b q rest payload s c;
-      back = λ rest whole agree c.
-          let f = step_first p b rest whole (leads_open p b q s) c in
-          (whole, refl, subst (λ r. Completes limits r rest whole) (one_place p b f.0 q f.1 s) f.2);
-      within = one_within p b q s;
-    };
-    few = omega (arith, nearer p b q s);
-  }
+  passes p b q s = grind (arith, step_on, step_first, leads_open, one_place, one_within, nearer)
 
   -- what is wrong with a byte leads nowhere
   wrong_open : (p : Place) (b : ℕ) (why : Malformed) → IsWrong limits p b why → ¬ IsDataOrDone p

@@ -95,8 +95,7 @@ step_on w b text blanks signs begins = grind arith
 name_on : (w : Within) (b : ℕ) (text : List ℕ) → (IsBlank b → LeadsWithin w b BehindName)
     → ((b ≡ 59) → LeadsWithin w b BeforeName)
     → BeginsParameter b text → StepsOn w b text
-name_on w b text blanks signs (inl (blank, left)) = goes BehindName (blanks blank) (left.0, inl left.1)
-name_on w b text blanks signs (inr (sign, left)) = goes BeforeName (signs sign) left
+name_on w b text blanks signs begins = grind arith
 
 assigned_on : (w : Within) (b count : ℕ) (text : List ℕ) → (IsBlank b → LeadsWithin w b BehindName)
     → ((b ≡ 61) → LeadsWithin w b BeforeValue) → Assigned (Parameters count) (b ∷ text) → StepsOn w b text
@@ -148,13 +147,10 @@ extension_no_digit b text h small = let begins = IsExtension-first b text h in g
 -- a byte leads on as the steps say, or nowhere
 pub leads : (w : Within) (b : ℕ) (v : Within) → LeadsWithin w b v
     → (text : List ℕ) → CompletesExtension w (b ∷ text) ↔ CompletesExtension v text
-leads w b v s = λ text. (
-  (λ e. let f = first w b text e in subst (λ x. CompletesExtension x text) (one_way w b f.next v f.steps s) f.left),
-  λ e. on w b v text s e,
-)
+leads w b v s = grind (arith, first, one_way, on)
 
 pub none : (w : Within) (b : ℕ) → ((v : Within) → LeadsWithin w b v → ⊥) → (text : List ℕ) → ¬ CompletesExtension w (b ∷ text)
-none w b never = λ text e. let f = first w b text e in never f.next f.steps
+none w b never = grind (arith, first)
 
 -- so many bytes complete one, and no fewer
 pub least_some : (w : Within) → (text : List ℕ) × CompletesExtension w text × (length text ≡ least_left w)
