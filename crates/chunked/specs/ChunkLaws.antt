@@ -102,11 +102,7 @@ module _ (limits : Limits) (line : 16 ≤ limits.line) (fields : List (List ℕ)
 
   -- chunks, and then the end of a body, are a body, and the payload in it is theirs
   pub IsChunks-body : (bytes payload : List ℕ) → IsChunks bytes payload → IsBodyOfChunks limits (bytes ++ body_end fields) payload
-  IsChunks-body bytes payload h = record {
-    payloads = h.payloads;
-    chunks = rw h.equal (has_chunks h.payloads h.carried);
-    equal = h.joined;
-  }
+  IsChunks-body bytes payload h = grind (arith, has_chunks)
 
 -- so are chunks of these payloads, with no trailers
 pub chunks_body : (limits : Limits) → 16 ≤ limits.line → (payloads : List (List ℕ)) → All IsCarried payloads

@@ -1,17 +1,10 @@
 -- What can't go on is wrong, and what can runs over where the least that ends the extension doesn't fit the line.
-use Rattle.std.proofs.Common.{◌<◌, arith, inl, inr, length, refl, rules}
+use Rattle.std.proofs.Common.{◌<◌, arith, inl, inr, length, refl}
 use Rattle.chunked.specs.WithinLaws.{leads, least_all, least_some, none}
 use Rattle.chunked.proofs.step.in_extension.Goals as goal
 
 pub returns-in-None : goal.returns-in-None
-returns-in-None c = λ l. inr (inr (
-  refl,
-  record {
-    none = none c.args.within c.args.byte c.in-None.ensures;
-    no_return = search rules;
-    no_feed = search rules;
-  },
-))
+returns-in-None c = grind (arith, none)
 
 pub returns-in-Some : goal.returns-in-Some
 returns-in-Some c = λ l.

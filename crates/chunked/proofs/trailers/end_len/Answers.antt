@@ -52,19 +52,7 @@ returns-then-is_framing-clause-cannot c =
     )
 
 pub returns-then-len-capacity-clause-cannot : goal.returns-then-len-capacity-clause-cannot
-returns-then-len-capacity-clause-cannot c =
-    let fields = c.args.fields.now in
-    let all = all_lines fields c.loop-i.i c.loop-i-test.false in (
-      refl,
-      rw all at c.loop-i.invariant.lines,
-      omega (
-        arith,
-        c.if-len-capacity.true,
-        c.loop-i.invariant.counted,
-        front_len (lines_of fields),
-        ap (λ l. length (front l)) all,
-      ),
-    )
+returns-then-len-capacity-clause-cannot c = grind (arith, all_lines, front_len)
 
 pub returns-clause-fits : goal.returns-clause-fits
 returns-clause-fits c =

@@ -1,7 +1,7 @@
 -- What went in is the front of the end of the body, so the room that is left takes what follows of it.
 use Rattle.std.proofs.Common.{length, ap, append_assoc, arith}
 use Rattle.chunked.specs.Trailers.{lines_of}
-use Rattle.chunked.proofs.Fields.{all_lines, end_in, front, front_ended, front_len, front_more_len, inside, front_more, line_at, line_fits, line_in}
+use Rattle.chunked.proofs.Fields.{all_lines, end_in, front_ended, front_len, front_more_len, inside, front_more, line_at, line_fits, line_in}
 use Rattle.chunked.proofs.trailers.put_end.Goals as goal
 
 pub put-requires-in-loop-field : goal.put-requires-in-loop-field
@@ -32,25 +32,10 @@ loop-field-preserved g c =
     }
 
 pub put-requires-2 : goal.put-requires-2
-put-requires-2 g c =
-    let fields = c.args.fields.now in
-    let all = all_lines fields c.loop-field.field-index c.loop-field-test.false in
-    omega (
-      arith,
-      c.requires.room,
-      c.loop-field.invariant.space,
-      front_len (lines_of fields),
-      ap (λ l. length (front l)) all,
-    )
+put-requires-2 g c = grind (arith, all_lines, front_len)
 
 pub returns-clause-put : goal.returns-clause-put
-returns-clause-put g c =
-    let fields = c.args.fields.now in
-    end_in _ _ _ (lines_of fields) _
-    (all_lines fields c.loop-field.field-index c.loop-field-test.false) c.loop-field.invariant.put c.put-2.ensures.put
+returns-clause-put g c = grind (arith, end_in, all_lines)
 
 pub returns-clause-wire : goal.returns-clause-wire
-returns-clause-wire g c =
-    let fields = c.args.fields.now in
-    let all = all_lines fields c.loop-field.field-index c.loop-field-test.false in
-    rw (c.put-2.ensures.wire, c.loop-field.invariant.wire, all, ← front_ended (lines_of fields)) (simp append_assoc)
+returns-clause-wire g c = grind (arith, all_lines, front_ended, append_assoc)

@@ -9,12 +9,7 @@ between : (g : _) (c : After-begin g) → c.args.self.now.due ≡ 0
 between g c = omega (arith, c.if-self-gt0.false, ap (λ x. x.due) c.self.view_is)
 
 large : (g : _) (c : After-begin g) → c.args.self.now.writer.block.capacity < around + length c.args.payload.now
-large g c = omega (
-  arith,
-  c.if-payload-capacity.false,
-  c.capacity.ensures.value,
-  ap (λ x. x.writer.block.capacity) c.self.view_is,
-)
+large g c = grind arith
 
 pub returns-in-Ok-clause-writes : goal.returns-in-Ok-clause-writes
 returns-in-Ok-clause-writes g c =
