@@ -31,11 +31,7 @@ pub rest_kept : (was out rest : List ℕ) (handed n : ℕ) → handed ≤ length
     → drop n rest ≡ drop n (mid_of handed (length out - handed) out)
     → drop (handed + n) (put_mid handed (length out - handed) out rest) ≡ drop (handed + n) was
 rest_kept was out rest handed n within is same =
-    let front = take handed out in
-    ap (drop (handed + n)) (put_rest out rest handed)
-    ∙ ap (λ j. drop (j + n) (front ++ rest)) (sym (length-take-le handed out within)) ∙ drop-append-add front rest n ∙ same
-    ∙ ap (drop n) (take_all (length out - handed) (drop handed out) (omega (arith, length-drop handed out)) ∙ is)
-    ∙ drop-drop n handed was
+    grind (arith, put_rest, length-take-le, within, drop-append-add, take_all, length-drop, drop-drop)
 
 zero_unless : (n : ℕ) → ¬ (0 < n) → n ≡ 0
 zero_unless n none = grind arith

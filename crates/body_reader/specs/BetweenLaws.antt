@@ -1,7 +1,6 @@
 -- Laws of what a reader of a body does with its buffered reader.
-use Rattle.std.proofs.Common.{◌≡◌, ℕ, zero, suc, ◌+◌, ◌<◌, ◌≤◌, List, [], ◌∷◌, ◌++◌, length, min, Option, Result, Ok, Err, inl, inr, sym, ap, subst, ◌∙◌, refl, arith, append_assoc, append-nil, length-append, rules}
+use Rattle.std.proofs.Common.{◌≡◌, ℕ, zero, suc, ◌<◌, ◌≤◌, List, [], ◌∷◌, ◌++◌, length, min, Option, Result, Ok, Err, inl, inr, sym, ap, subst, ◌∙◌, refl, arith, append_assoc, append-nil, length-append, rules}
 use Rattle.std.proofs.lemmas.List.{length-take-le}
-use Rattle.std.specs.Prelude.{⊤}
 use Rattle.std.specs.declared.io.Error.{Error}
 use Rattle.buffer_redux.specs.Block.{OnlyRingMoves}
 use Rattle.buffer_redux.specs.BlockLaws.{OnlyRingMoves-joins, OnlyRingMoves-none}

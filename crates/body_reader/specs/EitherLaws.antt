@@ -27,19 +27,7 @@ module _ {P R V X : Type 0} (at : P → R) (place_of : R → Option P) (name : V
   h = on_side at place_of name_of g
 
   side_alike : (p : P) (shown : List ℕ) → Alike g h at name (at p) p shown
-  side_alike p shown = record {
-    there = λ rest payload agree. onto (places p) (λ q. g.completes q rest payload);
-    back = λ rest payload agree. from (places p) (λ q. g.completes q rest payload);
-    carried = λ bytes follow more same. onto (places p) (λ q. g.carries q bytes follow);
-    clear = λ bytes follow. from (places p) (λ q. g.carries q bytes follow);
-    between = ap (λ o. option_map_or g.between o 0) (places p);
-    sure = ap (λ o. option_map_or g.sure o 0) (places p);
-    named = λ bytes why wrong. onto (places p) (λ q. IsSomeAnd (name_of (name why)) (g.wrong q bytes))
-        (onto (names why) (g.wrong p bytes) wrong);
-    wrong = λ bytes why wrong.
-        let v = found (name_of why) (g.wrong p bytes) (from (places p) (λ q. IsSomeAnd (name_of why) (g.wrong q bytes)) wrong) in
-        (v.0, v.2);
-  }
+  side_alike p shown = grind (arith, onto, option_map_or)
 
   pub side_looks : (p : P) (shown : List ℕ) (l : Look P V) → Looks g p shown l → Looks h (at p) shown (look_as at name l)
   side_looks p shown = alike_looks g h at name (omega arith) (λ q. onto (places q) g.is_place) side_alike (λ follow. refl) (at p)

@@ -1,5 +1,5 @@
 -- Laws of bodies that are just some bytes, or else end at a delimiter.
-use Rattle.std.proofs.Common.{◌≡◌, ℕ, ◌+◌, ◌<◌, ◌≤◌, List, [], ◌++◌, length, take, drop, inl, inr, sym, ap, refl, subst, ◌∙◌, arith, append_assoc, append-nil, length-append, rules}
+use Rattle.std.proofs.Common.{◌≡◌, ℕ, ◌+◌, ◌<◌, ◌≤◌, List, [], ◌++◌, length, inl, inr, sym, ap, refl, subst, ◌∙◌, arith, append_assoc, append-nil, length-append, rules}
 use Rattle.std.proofs.lemmas.List.{nil_from_length, take-append-drop, take_at}
 use Rattle.body_reader.specs.declared.coding.Look.{Look}
 use Rattle.body_reader.specs.declared.coding.Look.TheVariants as look
@@ -24,11 +24,7 @@ module _ (just needle : List ℕ) (room : ℕ) (some : 0 < length just) (shorter
 
   -- what goes on as bytes that neither begin the others nor begin with them
   differs : (shown rest more : List ℕ) → ¬ Agree just shown → Agree shown rest → ¬ (rest ≡ just ++ more)
-  differs shown rest more apart agree same = apart (
-    more ++ agree.1,
-    agree.0,
-    sym (append_assoc just more agree.1) ∙ ap (λ l. l ++ agree.1) (sym same) ∙ sym agree.2,
-  )
+  differs shown rest more apart agree same = grind (arith, apart, append_assoc)
 
   pub alike_start : (shown : List ℕ) → ¬ Agree just shown → Like at.Start Inside shown
   alike_start shown apart = record {

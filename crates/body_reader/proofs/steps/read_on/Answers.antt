@@ -1,5 +1,5 @@
 -- What is known is handed out at once, and into an empty slice nothing.
-use Rattle.std.proofs.Common.{◌<◌, inl, length, refl, rules}
+use Rattle.std.proofs.Common.{◌<◌, length, rules, arith}
 use Rattle.body_reader.specs.BetweenLaws.{EachGave-same, PassesOn-way}
 use Rattle.body_reader.proofs.Handing.{hands_after, hands_ended, hands_front, hands_nothing, hands_passed}
 use Rattle.body_reader.proofs.steps.read_on.Goals as goal
@@ -13,13 +13,7 @@ returns-in-Payload-clause-hands g c =
     hands_passed _ _ _ _ _ _ _ _ _ _ room _ _ c.in-Some.ensures _ _ _ c.read_sure.ensures.hands
 
 pub returns-in-Ended-clause-hands : goal.returns-in-Ended-clause-hands
-returns-in-Ended-clause-hands g c =
-    let finds = c.in-Some.ensures in
-    let room : 0 < length c.args.out.now = search rules in
-    hands_ended _ _ _ _ _ _ _ _ _ _ room finds.none.1 (
-      PassesOn-way finds.passes,
-      (EachGave-same _ _ finds.passes.told, inl (refl, rw c.in-Ended.is at finds.none.2.0)),
-    )
+returns-in-Ended-clause-hands g c = grind (arith, hands_ended, PassesOn-way, EachGave-same)
 
 pub returns-in_default-look-clause-hands : goal.returns-in_default-look-clause-hands
 returns-in_default-look-clause-hands g c =

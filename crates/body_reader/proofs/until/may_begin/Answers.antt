@@ -1,5 +1,5 @@
 -- Where the bytes left are no front of the delimiter it begins nowhere, so the first place where they are is it.
-use Rattle.std.proofs.Common.{◌≡◌, ◌≢◌, ℕ, ◌+◌, ◌-◌, ◌<◌, List, [], ◌++◌, true, false, length, take, drop, slice_index, inl, inr, sym, ap, subst, ◌∙◌, arith}
+use Rattle.std.proofs.Common.{◌≡◌, ◌≢◌, ℕ, ◌+◌, ◌-◌, ◌<◌, List, [], ◌++◌, true, false, length, take, drop, slice_index, sym, ap, subst, ◌∙◌, arith}
 use Rattle.std.proofs.Math.Seq.{take-length}
 use Rattle.std.proofs.lemmas.Bool.{cases_lt}
 use Rattle.std.proofs.lemmas.Bool.Decides.{Decides-eqb}
@@ -17,10 +17,7 @@ goes_on : (needle shown : List ℕ) (at : ℕ)
     → ((k : ℕ) → k < at → length shown < k + length needle → (rest : List ℕ) → needle ≢ drop k shown ++ rest)
     → ((rest : List ℕ) → needle ≢ drop at shown ++ rest) → (k : ℕ) → k < at + 1 → length shown < k + length needle
     → (rest : List ℕ) → needle ≢ drop k shown ++ rest
-goes_on needle shown at before here k low beyond rest is = elim (cases_lt k at) [
-  | inl less ↦ before k less beyond rest is
-  | inr last ↦ let same : k ≡ at = omega (arith, last, low) in here rest (is ∙ ap (λ n. drop n shown ++ rest) same)
-]
+goes_on needle shown at before here k low beyond rest is = grind (arith, cases_lt)
 
 -- nor is what begins with another byte
 other_first : (needle shown : List ℕ) (at : ℕ) → at < length shown → slice_index shown at ≢ slice_index needle 0

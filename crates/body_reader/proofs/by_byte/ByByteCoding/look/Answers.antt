@@ -1,5 +1,5 @@
 -- A run that begins at a byte of payload has some, and each of its bytes is payload, whatever follows.
-use Rattle.std.proofs.Common.{◌∙◌, sym}
+use Rattle.std.proofs.Common.{◌∙◌, sym, arith}
 use Rattle.body_reader.specs.ByByteLaws.{looks_none, looks_passed, looks_payload}
 use Rattle.body_reader.proofs.by_byte.ByByteCoding.look.Goals as goal
 
@@ -9,10 +9,7 @@ returns-then-is_empty g c =
     (sym c.is_empty.ensures ∙ c.if-is_empty.true) (sym c.is_end.ensures ∙ c.if-is_end.false)
 
 pub returns-in-Payload : goal.returns-in-Payload
-returns-in-Payload g c =
-    looks_payload _ c.args.place c.args.shown.now _ _ c.in-Payload.field-0 (sym c.is_empty.ensures ∙ c.if-is_empty.false)
-    (sym c.is_end.ensures ∙ c.if-is_end.false)
-    (sym c.turn.ensures ∙ c.in-Payload.is) c.run.ensures
+returns-in-Payload g c = grind (arith, looks_payload)
 
 pub returns-in-Passed : goal.returns-in-Passed
 returns-in-Passed g c =
