@@ -37,6 +37,7 @@ pub(crate) fn pass<R: TellRead, P: ReaderPolicy, C: Coding>(
 
 /// Takes what is no payload behind a look, and returns how many bytes of payload come next: 0 where the body ended.
 #[inline(always)]
+#[tactic(auto, using(crate::proofs::Skipping::skips_payload, crate::proofs::Skipping::skips_wrong, crate::proofs::Skipping::skips_done))]
 pub(crate) fn skip<R: TellRead, P: ReaderPolicy, C: Coding>(
     reader: &mut BufReader<R, P>,
     coding: &C,
@@ -265,6 +266,7 @@ pub(crate) fn read_on<R: TellRead, P: ReaderPolicy, C: Coding>(
 
 /// Knows what payload is buffered behind what is none, unless some is known, or says what comes in its place. Nobody is asked.
 #[inline(always)]
+#[tactic(auto, using(crate::proofs::Showing::known_found, crate::proofs::Showing::none_found))]
 pub(crate) fn find_known<R: TellRead, P: ReaderPolicy, C: Coding>(
     reader: &mut BufReader<R, P>,
     coding: &C,

@@ -88,6 +88,7 @@ impl Coding for Chunked {
     }
 
     #[inline(always)]
+    #[tactic(auto, using(crate::specs::CodingLaws::looks_data, crate::specs::CodingLaws::settled_some))]
     fn look(&self, place: Place, shown: &[u8]) -> Look<Place, Malformed> {
         if is_settled(place) {
             return match place {

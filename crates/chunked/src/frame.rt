@@ -27,6 +27,7 @@ pub(crate) fn frame(limits: &Limits, start: Place, shown: &[u8]) -> Option<(usiz
 
 // Where the line of a size begins.
 #[inline(always)]
+#[tactic(auto, using(crate::proofs::Framing::comes_none))]
 fn line_begins(limits: &Limits, start: Place, shown: &[u8]) -> Option<usize>
     ensures { IfSome result (λ at. (at ≤ length shown.now) × Comes limits.now start (take at shown.now) place.Line) }
 {

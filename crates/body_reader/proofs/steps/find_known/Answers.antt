@@ -3,20 +3,11 @@ use Rattle.std.proofs.Common.{arith}
 use Rattle.body_reader.proofs.Showing.{known_found, none_found, payload_found}
 use Rattle.body_reader.proofs.steps.find_known.Goals as goal
 
-pub returns-then-known-gt0 : goal.returns-then-known-gt0
-returns-then-known-gt0 g c =
-    known_found _ _ _ _ _ _ c.requires.place c.requires.known (omega (arith, c.if-known-gt0.true))
-
 pub returns-else-held-eq0 : goal.returns-else-held-eq0
 returns-else-held-eq0 g c =
     payload_found _ _ _ _ _ _ (omega (arith, c.if-known-gt0.false)) _ _ _ c.pass-look.ensures.passes c.pass-look.ensures.next
     _ c.in-Payload.is (omega (arith, c.if-held-eq0.false, c.buf_len-held.ensures.value)) _
     (omega (arith, c.min.ensures, c.buf_len-held.ensures.value))
-
-pub returns-then-held-eq0 : goal.returns-then-held-eq0
-returns-then-held-eq0 g c = none_found _ _ _ _ _ _ (omega (arith, c.if-known-gt0.false)) _ _ _ c.pass-look.ensures.passes
-    (rw c.in-Payload.is at c.pass-look.ensures.next) (g.met.C.Coding.lawful _)
-    (λ _ _. omega (arith, c.if-held-eq0.true, c.buf_len-held.ensures.value)) _ (omega (arith, c.if-known-gt0.false))
 
 pub returns-in_default : goal.returns-in_default
 returns-in_default g c = none_found _ _ _ _ _ _ (omega (arith, c.if-known-gt0.false)) _ _ _ c.pass-look.ensures.passes

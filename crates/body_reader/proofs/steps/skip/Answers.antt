@@ -10,16 +10,6 @@ loop-look-init g c = (skipped_none _ _ _ _ _ c.requires.place c.requires.room, c
 pub pass-look-requires : goal.pass-look-requires
 pass-look-requires g c = record { place = (c.loop-look.invariant.0.way 0).takes.place }
 
-pub returns-in-Payload : goal.returns-in-Payload
-returns-in-Payload g c =
-    skips_payload _ _ _ _ _ _ _ c.loop-look.invariant.0 _ c.loop-look.invariant.1.0 _ c.in-Payload.is
-
-pub returns-in-Wrong : goal.returns-in-Wrong
-returns-in-Wrong g c = skips_wrong _ _ _ _ _ _ _ c.loop-look.invariant.0 _ c.loop-look.invariant.1.0 _ c.in-Wrong.is
-
-pub returns-in-Ended : goal.returns-in-Ended
-returns-in-Ended g c = skips_done _ _ _ _ _ _ _ c.loop-look.invariant.0 _ c.loop-look.invariant.1.0 c.in-Ended.is
-
 pub returns-in_err-shown-in-More : goal.returns-in_err-shown-in-More
 returns-in_err-shown-in-More g c =
     let found = rw c.in_err-shown-in-More.was at c.peek.follows.holds-at-none in
