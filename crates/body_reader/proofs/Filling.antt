@@ -33,9 +33,7 @@ Carries-fewer g p sure n shown carries some few =
 pub one_ahead : {S Q A : Type 0} (remaining : S → Option (List ℕ)) (rules : ReadRules Q) (m : Buffered S Q)
     (answer : Result A Error) (t : Buffered S Q) → 1 ≤ m.block.capacity
     → ReadsAhead remaining rules (min 1 m.block.capacity) m answer t → ReadsAhead remaining rules 1 m answer t
-one_ahead remaining rules m answer t room ahead =
-    let same : min 1 m.block.capacity ≡ 1 = omega (arith, room) in
-    subst (λ k. ReadsAhead remaining rules k m answer t) same ahead
+one_ahead remaining rules m answer t room ahead = grind arith
 
 -- an empty buffer has room for as many bytes as it holds
 room_so : (k : Kind) (b : Block) → OnKind k (length b.bytes ≡ 0 → usable b ≡ b.capacity) (length b.bytes + usable b ≡ b.capacity)

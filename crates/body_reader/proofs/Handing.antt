@@ -20,9 +20,7 @@ some_of n is = grind arith
 -- the first of bytes that are surely payload are payload
 pub front_carries : {P W : Type 0} (g : Grammar P W) (p : P) (k n : ℕ) (bytes : List ℕ) → Carries g p k bytes → n ≤ k
     → n ≤ length bytes → g.carries p (take n bytes) (drop n bytes)
-front_carries g p k n bytes carries few held =
-    carries.carries (take n bytes) (drop n bytes) [] (omega (arith, few, length-take-le n bytes held))
-    (take-append-drop n bytes ∙ sym (append-nil bytes))
+front_carries g p k n bytes carries few held = grind (arith, length-take-le, take-append-drop, append-nil)
 
 -- of bytes of which a look showed k the first n are taken, and the rest of the k stays known
 pub knows_rest : {P W : Type 0} {g : Grammar P W} {p : P} {taken taken' : List ℕ} {k n : ℕ} {bytes left : List ℕ} {k' : ℕ}

@@ -22,9 +22,7 @@ use borrow.Rule.Slice.PartMut.{mid_of, put_mid}
 
 -- a slice of which the rest was written
 put_rest : (out tail : List ℕ) (n : ℕ) → put_mid n (length out - n) out tail ≡ take n out ++ tail
-put_rest out tail n =
-    ap (λ l. take n out ++ (tail ++ l)) (drop_all (length out - n) (drop n out) (omega (arith, length-drop n out)))
-    ∙ ap (λ l. take n out ++ l) (append-nil tail)
+put_rest out tail n = grind (arith, drop_all, length-drop, append-nil)
 
 -- behind what is handed out it stays as it was
 pub rest_kept : (was out rest : List ℕ) (handed n : ℕ) → handed ≤ length out → drop handed out ≡ drop handed was

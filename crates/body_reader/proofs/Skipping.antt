@@ -128,9 +128,7 @@ module _ {S Q P W : Type 0} (remaining : S → Option (List ℕ)) (rules : ReadR
       -- what comes next is wrong
       pub skips_wrong : (why : W) → l ≡ look.Wrong why → (slice : ℕ)
           → SkipsOn remaining rules g slice s p (Err (Wrong why q.count)) m q
-      skips_wrong why is slice =
-          let looks : Looks g q.place m.block.bytes (look.Wrong why) = subst (Looks g q.place m.block.bytes) is next in
-          (so.way slice, (refl, so.gave, looks.0))
+      skips_wrong why is slice = grind arith
 
       -- there are too few bytes
       module _ (n : ℕ) (is : l ≡ look.More n) where
@@ -148,9 +146,7 @@ module _ {S Q P W : Type 0} (remaining : S → Option (List ℕ)) (rules : ReadR
         module _ {A : Type 0} (u : Buffered S Q) where
           module _ (answer : Result A Error) (ahead' : ReadsAhead remaining rules (min n m.block.capacity) m answer u) where
             ahead : ReadsAhead remaining rules n m answer u
-            ahead =
-                let fits : min n m.block.capacity ≡ n = omega (arith, so.room, lacks.most) in
-                subst (λ k. ReadsAhead remaining rules k m answer u) fits ahead'
+            ahead = grind (arith, lacks)
 
             way_ahead : (slice : ℕ) → Way remaining rules g slice s p [] u q
             way_ahead slice = Way-joins (so.way slice) so.gave (record {

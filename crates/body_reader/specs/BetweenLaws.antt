@@ -19,7 +19,7 @@ use Rattle.buffer_redux.specs.Asking.{AskedWhere}
 use Rattle.buffer_redux.specs.AskingLaws.{AskedWhere-of, AskedWhere-same}
 use Rattle.body_reader.specs.AskingLaws.{AskedOver-behind}
 use Rattle.body_reader.specs.Between.{AsksWithRoom, AsksOpen, EachGave, FaultedOnce, PassesTo, PassesMany, PassesOn, PassesOnce, Proceeds, KeepsBuffer, GaveNothingOnce, StopsFor, TakenThrough, TakesBytes, TellsOnce, Way}
-use Rattle.body_reader.specs.Coding.{AskedFor, Grammar, IsOpen, IsOpenBelow, LeadsOpen}
+use Rattle.body_reader.specs.Coding.{AskedFor, Grammar, IsOpen, IsOpenBelow}
 use Rattle.body_reader.specs.CodingLaws.{AskedFor-behind, AskedFor-here, Leads-none, Leads-then}
 
 pub EachGave-none : {S Q : Type 0} (s : Buffered S Q) → EachGave s s
@@ -126,9 +126,7 @@ module _ {S Q A P W : Type 0} {remaining : S → Option (List ℕ)} {rules : Rea
 module _ {S Q P W : Type 0} (remaining : S → Option (List ℕ)) (rules : ReadRules Q) (g : Grammar P W) where
   pub AsksWithRoom-open : (room : ℕ) (s : Buffered S Q) (p : P) (t : Buffered S Q) → AsksWithRoom remaining rules g room s p t
       → AsksOpen remaining rules g s p t
-  AsksWithRoom-open room s p t =
-      AskedWhere-of (AskedFor g p room t.log.reads.offer) (LeadsOpen g p []) (unbuffered s) (unbuffered t)
-      (λ more asked. asked.leads)
+  AsksWithRoom-open room s p t = grind (arith, AskedWhere-of, unbuffered)
 
   pub AsksWithRoom-here : (room : ℕ) (s : Buffered S Q) (p : P) (t : Buffered S Q) → g.is_place p
       → min room (g.sure p) ≤ t.log.reads.offer → AskedWhere (IsOpen g p) (unbuffered s) (unbuffered t)

@@ -25,11 +25,7 @@ pub Agree-less : (a more b : List ℕ) → Agree (a ++ more) b → Agree a b
 Agree-less a more b agree = (more ++ agree.0, agree.1, sym (append_assoc a more agree.0) ∙ agree.2)
 
 pub Agree-front : (a b c : List ℕ) → Agree b c → Agree (a ++ b) (a ++ c)
-Agree-front a b c agree = (
-  agree.0,
-  agree.1,
-  append_assoc a b agree.0 ∙ ap (λ l. a ++ l) agree.2 ∙ sym (append_assoc a c agree.1),
-)
+Agree-front a b c agree = grind (arith, append_assoc)
 
 pub Agree-nothing : (a : List ℕ) → Agree a []
 Agree-nothing a = ([], a, append-nil a)
@@ -72,18 +68,7 @@ module _ {P W : Type 0} (g : Grammar P W) where
         follow_of w m is = ([], m ++ follow, append-nil (b ++ follow) ∙ ap (λ l. l ++ follow) is ∙ append_assoc w m follow)
 
     pub Leads-joins : Leads g p (a ++ b) (h ++ k) r follow
-    Leads-joins = record {
-      onward = λ rest payload agree c.
-          subst (λ l. g.completes p l ((h ++ k) ++ payload)) (sym (append_assoc a b rest))
-          (subst (λ l. g.completes p (a ++ (b ++ rest)) l) (sym (append_assoc h k payload))
-          (x.onward (b ++ rest) (k ++ payload) (Agree-front b follow rest agree) (y.onward rest payload agree c)));
-      back = λ rest whole agree c.
-          let first = x.back (b ++ rest) whole (Agree-front b follow rest agree)
-          (subst (λ l. g.completes p l whole) (append_assoc a b rest) c) in
-          let second = y.back rest first.0 agree first.2 in
-          (second.0, first.1 ∙ ap (λ l. h ++ l) second.1 ∙ sym (append_assoc h k second.0), second.2);
-      within = joined_within;
-    }
+    Leads-joins = grind (arith, append_assoc, Agree-front, joined_within)
 
   -- what is heeded stands in front
   pub heeded_front : (follow : List ℕ) → (more : List ℕ) × (follow ≡ heeded g follow ++ more)
@@ -238,9 +223,7 @@ module _ {P W : Type 0} (g : Grammar P W) where
 
   -- no byte isn't wrong
   pub none_wrong : IsLawful g → (p : P) (why : W) → g.is_place p → ¬ g.wrong p [] why
-  none_wrong lawful p why place wrong =
-      let end = lawful.alive p place in
-      lawful.never p [] why end.0 end.1 place wrong end.2 (end.0, [], sym (append-nil end.0))
+  none_wrong lawful p why place wrong = grind (arith, append-nil)
 
   -- behind a body a look says so
   pub looks_done : (p : P) (shown : List ℕ) (l : Look P W) → IsDone g p → Looks g p shown l → l ≡ Ended

@@ -1,5 +1,5 @@
 -- The first colon of a line is where the name ends, if the line is one of trailers.
-use Rattle.std.proofs.Common.{◌≡◌, ℕ, zero, suc, ◌<◌, ◌≤◌, ◌==◌, Bool, true, false, List, [], ◌∷◌, length, take, drop, slice_index, sym, ap, arith, inl, inr, refl}
+use Rattle.std.proofs.Common.{◌≡◌, ℕ, zero, suc, ◌<◌, ◌≤◌, ◌==◌, Bool, true, false, List, [], ◌∷◌, length, take, drop, slice_index, arith, inl, inr, refl}
 use Rattle.std.proofs.lemmas.List.Sums.{position_or_len_is}
 use Rattle.chunked.specs.Names.{AllByRecursion, BehindFirst, IsField, IsTokenByte, IsValueByte}
 use Rattle.chunked.specs.FieldLaws.{token_plain}
@@ -62,6 +62,4 @@ not_true test not = grind arith
 -- the name stands in front of it
 pub first_colon : (line : List ℕ) (end : ℕ) → end < length line → slice_index line end ≡ 58 → NoColonBefore line end
     → take end line ≡ name_in line
-first_colon line end within is before =
-    ap (λ k. take k line) (sym (position_or_len_is (λ b. b == 58) line end 0 (omega (arith, within))
-    (λ k low. not_true (slice_index line k == 58) (before k (omega arith) low)) (λ _. rw is refl)))
+first_colon line end within is before = grind (arith, position_or_len_is, not_true)

@@ -1,5 +1,5 @@
 -- The digits of a size are written from the last to the first, each out of the table.
-use Rattle.std.proofs.Common.{◌≡◌, ℕ, zero-add, ◌+◌, ◌-◌, ◌<◌, ◌≤◌, List, ◌∷◌, length, drop, set, get_or, ap, ◌∙◌, arith}
+use Rattle.std.proofs.Common.{◌≡◌, ℕ, zero-add, ◌-◌, ◌<◌, ◌≤◌, List, ◌∷◌, length, drop, set, get_or, arith}
 use Rattle.chunked.specs.Names.{digit_char, drop-set}
 use Rattle.std.proofs.lemmas.List.FromFn.{get_or-map-range_with_len}
 use Rattle.std.specs.Prelude.{codes}
@@ -10,6 +10,4 @@ digit_table d small = get_or-map-range_with_len digit_char 0 16 d d 0 small (zer
 -- a byte that is written just before others stands before them
 pub set_before : (xs : List ℕ) (start y z : ℕ) → 1 ≤ start → start ≤ length xs → y ≡ z
     → drop (start - 1) (set xs (start - 1) y) ≡ z ∷ drop start xs
-set_before xs start y z some within same =
-    let back : start - 1 + 1 ≡ start = omega (arith, some) in
-    drop-set xs (start - 1) y (omega (arith, some, within)) ∙ ap (λ k. y ∷ drop k xs) back ∙ ap (λ b. b ∷ drop start xs) same
+set_before xs start y z some within same = grind (arith, drop-set)

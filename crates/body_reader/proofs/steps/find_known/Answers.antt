@@ -1,6 +1,6 @@
 -- What a look says is payload is so as far as it is buffered; any other answer says that none is shown.
 use Rattle.std.proofs.Common.{arith}
-use Rattle.body_reader.proofs.Showing.{known_found, none_found, payload_found}
+use Rattle.body_reader.proofs.Showing.{none_found, payload_found}
 use Rattle.body_reader.proofs.steps.find_known.Goals as goal
 
 pub returns-else-held-eq0 : goal.returns-else-held-eq0

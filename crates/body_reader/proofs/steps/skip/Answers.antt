@@ -1,7 +1,7 @@
 -- As many bytes as a look needs fit the buffer, so fewer are shown only where the stream gave none.
 use Rattle.std.proofs.Common.{arith}
 use Rattle.std.proofs.lemmas.Result.{err_from_is_err_and}
-use Rattle.body_reader.proofs.Skipping.{shows_here, skipped_more, skipped_none, skipped_there, skips_cut, skips_done, skips_fails, skips_payload, skips_wrong}
+use Rattle.body_reader.proofs.Skipping.{shows_here, skipped_more, skipped_none, skipped_there, skips_cut, skips_fails}
 use Rattle.body_reader.proofs.steps.skip.Goals as goal
 
 pub loop-look-init : goal.loop-look-init
