@@ -183,3 +183,6 @@ module _ {S Q P W : Type 0} (remaining : S → Option (List ℕ)) (rules : ReadR
             gave = EachGave-joins s m u so.gave (ReadsAhead-gave (ahead (Ok a) ahead') enough);
             room = omega (arith, so.room, ahead'.capacity);
           }
+
+-- what ends a skip at once, as a look says it
+pub ruleset skips_told = (skips_payload, skips_wrong, skips_done)

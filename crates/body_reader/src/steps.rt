@@ -37,7 +37,7 @@ pub(crate) fn pass<R: TellRead, P: ReaderPolicy, C: Coding>(
 
 /// Takes what is no payload behind a look, and returns how many bytes of payload come next: 0 where the body ended.
 #[inline(always)]
-#[tactic(auto, using(crate::proofs::Skipping::skips_payload, crate::proofs::Skipping::skips_wrong, crate::proofs::Skipping::skips_done))]
+#[tactic(auto, using(crate::proofs::Skipping::skips_told))]
 pub(crate) fn skip<R: TellRead, P: ReaderPolicy, C: Coding>(
     reader: &mut BufReader<R, P>,
     coding: &C,

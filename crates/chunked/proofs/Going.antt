@@ -1,6 +1,7 @@
 -- What payload that goes on in a chunk does, and what a chunk does that is begun.
 use Rattle.std.proofs.Common.{◌≡◌, ℕ, ◌+◌, ◌-◌, ◌<◌, ◌≤◌, List, [], ◌++◌, length, min, take, Result, Ok, Err, MatchResult, ap, ◌∙◌, arith, inl, inr, refl, append_assoc, append-nil}
 use Rattle.chunked.specs.Names.{accepted_of, after_write, around, Buffered, cases_lt, chunk_begun, chunk_end, ChunkedWriterState, CopiesSizeLine, Error, GoesDirect, greatest, HasBegun, InnerWent, IsBlock, IsChunkedWriter, IsChunks, IsNoted, length-take, length-take-le, MakesRoom, MakesSpace, PayloadWent, portion, PutsIn, room, StdPolicy, StreamLog, take-take, take_all, take_min, TakesSome, TakesThere, WentOn, with_block, WritesChunk}
+use Rattle.chunked.specs.ChunkedWriter.{BeginsChunk}
 use Rattle.chunked.specs.ChunkLaws.{HasBegun-ends, HasBegun-more}
 use Rattle.chunked.specs.ChunkedWriterLaws.{PayloadWent-joins}
 use Rattle.chunked.proofs.Writing.{WentIn, nothing_went, payload_went, puts_went, space_went, went_on}
@@ -160,34 +161,22 @@ module _ {S : Type 0} (tells : S → StreamLog) (trace : S → S → Type 0) (no
       abbrev size : ℕ
       size = min (length payload) greatest
 
+      -- of such a write the clauses of others say nothing
+      large_so : (answer : Result ℕ Error) (t : ChunkedWriterState S)
+          → (bytes : List ℕ) × PayloadWent trace s bytes (portion payload answer) t → BeginsChunk tells trace s payload answer t
+          → IsNoted s payload answer t → IsChunkedWriter t → WritesChunk tells trace s payload answer t
+      large_so answer t went begins noted whole = grind arith
+
       pub wrote_begun : (b : ChunkedWriterState S) → CopiesSizeLine tells trace size s (Ok tt) b → (answer : Result ℕ Error)
           (t : ChunkedWriterState S) → WentOn tells trace b payload answer t → WritesChunk tells trace s payload answer t
-      wrote_begun b begins answer t went = record {
-        went = (
-          chunk_begun size [] ++ went.went.0,
-          PayloadWent-joins trace none joins s b t (chunk_begun size []) went.went.0 [] (portion payload answer)
-              (begun_went s is size b begins) went.went.1,
-        );
-        nothing = λ nothing. absurd (omega (arith, nothing, some));
-        chunks = λ _ fits. absurd (omega (arith, fits, large));
-        fits = λ _ _ fits. absurd (omega (arith, fits, large));
-        full = λ _ _ _ fits. absurd (omega (arith, fits, large));
-        begins = λ _ _. record { beginning = Ok tt; begun = b; begins = begins; ended = went.goes };
-        goes_on = λ _ within. absurd (omega (arith, within, between));
-        noted = noted_on b t answer begins.calls went.noted;
-        whole = went.whole;
-      }
+      wrote_begun b begins answer t went = large_so answer t (
+        chunk_begun size [] ++ went.went.0,
+        PayloadWent-joins trace none joins s b t (chunk_begun size []) went.went.0 [] (portion payload answer)
+            (begun_went s is size b begins) went.went.1,
+      ) (record { beginning = Ok tt; begun = b; begins = begins; ended = went.goes })
+          (noted_on b t answer begins.calls went.noted) went.whole
 
       pub not_begun : (e : Error) (t : ChunkedWriterState S) → CopiesSizeLine tells trace size s (Err e) t → IsChunkedWriter t
           → WritesChunk tells trace s payload (Err e) t
-      not_begun e t begins whole = record {
-        went = ([], not_begun_went s is size e t begins);
-        nothing = λ nothing. absurd (omega (arith, nothing, some));
-        chunks = λ _ fits. absurd (omega (arith, fits, large));
-        fits = λ _ _ fits. absurd (omega (arith, fits, large));
-        full = λ _ _ _ fits. absurd (omega (arith, fits, large));
-        begins = λ _ _. record { beginning = Err e; begun = t; begins = begins; ended = (refl, refl) };
-        goes_on = λ _ within. absurd (omega (arith, within, between));
-        noted = begins.calls;
-        whole = whole;
-      }
+      not_begun e t begins whole = large_so (Err e) t ([], not_begun_went s is size e t begins)
+          (record { beginning = Err e; begun = t; begins = begins; ended = (refl, refl) }) begins.calls whole
