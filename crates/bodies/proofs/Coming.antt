@@ -1,11 +1,6 @@
 -- What was taken where none could be handed out of what was buffered came from the stream.
 use Rattle.std.proofs.Common.{◌≡◌, ℕ, ◌<◌, inl, inr, List, [], ◌∷◌, ◌++◌, length, min, take, Option, Result, Ok, ap, subst, ◌∙◌, arith, append_assoc, length-append, length-drop, length-take-le}
-use Rattle.std.proofs.lemmas.Bool.{cases_lt}
-use Rattle.body_reader.specs.Coding.{IsBody}
-use Rattle.body_reader.specs.declared.error.BodyError.{BodyError}
-use Rattle.chunked.specs.CodingLaws.{chunked_lawful, follows}
-use Rattle.chunked.specs.declared.error.Malformed.{Malformed}
-use Rattle.bodies.specs.Words.{IsBodyReader, ReadsPayload, chunked, std_read_rules}
+use Rattle.bodies.specs.Words.{IsBodyReader, ReadsPayload, chunked, std_read_rules, cases_lt, IsBody, BodyError, chunked_lawful, follows, Malformed}
 use Rattle.bodies.specs.Decoding.{ChunkedState, NoneBuffered}
 
 -- what begins some bytes, and is not empty, begins with the first of them

@@ -1,26 +1,14 @@
 -- What a whole run of `decode` comes to.
 use Rattle.std.proofs.Common.{◌≡◌, ◌⊎◌, ℕ, inl, inr, List, [], ◌++◌, length, length-append, ◌≤◌, Option, Result, Ok, Err, OnOk, refl, sym, ap, subst, ◌∙◌, arith, append_assoc, append-nil}
-use Rattle.std.specs.List.{concat}
-use Rattle.std.proofs.lemmas.List.{nil_from_length}
 use Rattle.std.specs.Global.{Vec}
-use Rattle.buffer_redux.specs.ReaderLaws.{ReadsInOrder-fresh}
-use Rattle.body_reader.specs.CodingLaws.{Leads-none}
-use Rattle.chunked.specs.declared.error.Malformed.{Malformed}
 use Rattle.chunked.specs.declared.place.Place.TheVariants.{Line}
-use Rattle.forward.specs.Forward.{ForwardAnswers, Forwarded, StopsBy}
-use Rattle.forward.specs.ForwardLaws.{ForwardedFirst-all}
-use Rattle.forward.specs.PromptLaws.{RunsPromptly-none}
-use Rattle.forward.specs.StreamsLaws.{WriteGaveUp-so}
-use Rattle.forward.specs.declared.error.Cause.{Cause}
 use Rattle.forward.specs.declared.error.Cause.TheVariants as cause
-use Rattle.bodies.specs.Words.{Error, Buffered, StreamLog, StdPolicy, IsBodyOfChunks, TookWholeBody, BreaksAt, begun, chunked, Limits, FilterRules, AllSent, RefusedBeforeCalls, MetNoFault, RunError, InputFault}
+use Rattle.bodies.specs.Words.{Error, Buffered, StreamLog, StdPolicy, IsBodyOfChunks, TookWholeBody, BreaksAt, begun, chunked, Limits, FilterRules, AllSent, RefusedBeforeCalls, MetNoFault, RunError, InputFault, concat, nil_from_length, ReadsInOrder-fresh, Leads-none, Malformed, ForwardAnswers, Forwarded, StopsBy, ForwardedFirst-all, RunsPromptly-none, WriteGaveUp-so, Cause, IsErrorOf, Decoding}
 use Rattle.bodies.specs.Decode.{DecodeRan, DecodesBody, IsBodyPart, IsDue}
 use Rattle.bodies.specs.Decoding.{MayDecode, NoneBuffered, PayloadEnds, decoding_rules, held_payload}
 use Rattle.bodies.specs.DecodingLaws.{none_held}
-use Rattle.programs.specs.Outcome.{IsErrorOf}
 use Rattle.bodies.specs.Filters.{each_some}
 use Rattle.bodies.specs.Moved.{Moved, MovedAll, all_given, moved_none}
-use Rattle.bodies.specs.declared.decoding.Decoding.{Decoding}
 use Rattle.programs.specs.declared.error.RunError.TheVariants.{Io, Wrong}
 use Rattle.bodies.specs.declared.fault.InputFault.TheVariants.{NotChunked, Truncated, Behind}
 
@@ -164,19 +152,12 @@ module _ {R W : Type 0} (remaining : R → Option (List ℕ)) (limits : Limits) 
 
 -- where all went well: what was written is the payload of what was read
 pub decode_says : {limits : Limits} {read read' written written' : StreamLog} (answer : Result (Unit {0}) (RunError InputFault))
-    → DecodesBody limits read read' written written' answer → record {
-      decoded : OnOk answer ((body : List ℕ) × (payload : List ℕ) × IsBodyOfChunks limits body payload
-          × (read'.reads.given ≡ read.reads.given ++ body)
-          × (written'.writes.received ≡ written.writes.received ++ payload));
-      decodes : DecodesBody limits read read' written written' answer;
-    }
+    → DecodesBody limits read read' written written' answer → OnOk answer ((body : List ℕ) × (payload : List ℕ)
+    × IsBodyOfChunks limits body payload × (read'.reads.given ≡ read.reads.given ++ body)
+    × (written'.writes.received ≡ written.writes.received ++ payload))
 decode_says (Ok _) decodes =
-    let m = decodes.ran.0.moved in
-    record {
-      decoded = (m.taken, m.sent, decodes.ran.1, all_given m decodes.ran.2, m.received);
-      decodes = decodes;
-    }
-decode_says (Err e) decodes = record { decoded = tt; decodes = decodes }
+    let m = decodes.ran.0.moved in (m.taken, m.sent, decodes.ran.1, all_given m decodes.ran.2, m.received)
+decode_says (Err e) decodes = tt
 
 -- a buffer was refused
 pub refused : (limits : Limits) (read read' written written' : StreamLog) (e : Error)

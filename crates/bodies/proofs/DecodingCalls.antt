@@ -1,37 +1,17 @@
 -- What the calls of a filter of payload do.
-use Rattle.std.proofs.Common.{◌≡◌, ℕ, ◌+◌, ◌<◌, ◌≤◌, ◌⊎◌, inl, inr, List, [], ◌∷◌, ◌++◌, length, if◌then◌else◌, nat_lt, take, true, false, Bool, Option, Result, Ok, Err, OnErr, refl, sym, ap, subst, ◌∙◌, arith, append-nil, length-append, length-take-le}
-use Rattle.std.proofs.lemmas.List.Elements.{All-cons, All-nil}
-use Rattle.std.proofs.lemmas.List.{nil_from_length, with_items_is}
-use Rattle.std.specs.List.{concat}
+use Rattle.std.proofs.Common.{◌≡◌, ℕ, ◌+◌, ◌<◌, ◌≤◌, ◌⊎◌, inl, inr, List, [], ◌∷◌, ◌++◌, length, if◌then◌else◌, nat_lt, take, rules, true, false, Bool, Option, Result, Ok, Err, OnErr, refl, sym, ap, subst, ◌∙◌, arith, append-nil, length-append, length-take-le}
 use Rattle.std.specs.Vec.{with_items}
-use Rattle.buffer_redux.specs.LogGrows.{ReadLogGrows-joins}
-use Rattle.buffer_redux.specs.Unbuffer.{unbuffered}
-use Rattle.buffer_redux.specs.WriterLaws.{WritesInOrder-none}
 use Rattle.buffer_redux.specs.AskingLaws.{AskedWhere-of}
 use Rattle.body_reader.specs.AskingLaws.{AskedWhere-behind}
-use Rattle.body_reader.specs.Between.{EachGave, TellsOnce}
-use Rattle.body_reader.specs.BodyReader.{Breaks, EndsEarly}
-use Rattle.body_reader.specs.BodyReaderLaws.{BodyWent-joins}
-use Rattle.body_reader.specs.Coding.{AskedFor, LeadsOpen}
-use Rattle.body_reader.specs.CodingLaws.{Leads-joins, Leads-more}
-use Rattle.body_reader.specs.declared.error.BodyError.{BodyError}
 use Rattle.body_reader.specs.declared.error.BodyError.TheVariants as body
-use Rattle.chunked.specs.CodingLaws.{breaks_at}
-use Rattle.chunked.specs.declared.error.Malformed.{Malformed}
 use Rattle.chunked.specs.declared.place.Place.TheVariants.{Line}
-use Rattle.forward.specs.declared.error.AskError.{AskError}
 use Rattle.forward.specs.declared.error.AskError.TheVariants as ask
-use Rattle.forward.specs.Filter.{FailedToRead, SomeCame}
-use Rattle.forward.specs.Streams.{came}
-use Rattle.forward.specs.Target.{bytes_taken}
-use Rattle.programs.specs.TargetLaws.{TakesAll-not_passed, TakesAll-passed, WasFlushed-sent, WasFlushed-writes}
-use Rattle.bodies.specs.Words.{Error, WasFlushed, Buffered, std_read_rules, StreamLog, StdPolicy, BodyWent, IsBodyOfChunks, IsBodyReader, TakesAll, TookWholeBody, LooksBehind, ReadsPayload, chunked, handed_of, taken_count, AskAnswers, FilterAsks, FilterFlushes, FilterRules, FilterPasses, StaysOpen, taken_more, target_of, WritesInOrder, InputFault}
+use Rattle.bodies.specs.Words.{Error, Buffered, std_read_rules, StdPolicy, BodyWent, IsBodyOfChunks, IsBodyReader, TakesAll, TookWholeBody, LooksBehind, ReadsPayload, chunked, handed_of, taken_count, AskAnswers, FilterAsks, FilterRules, FilterPasses, PassAnswers, StaysOpen, taken_more, target_of, InputFault, All-cons, All-nil, nil_from_length, with_items_is, ReadLogGrows-joins, unbuffered, WritesInOrder-none, EachGave, TellsOnce, Breaks, EndsEarly, BodyWent-joins, AskedFor, LeadsOpen, Leads-joins, Leads-more, BodyError, breaks_at, Malformed, AskError, FailedToRead, SomeCame, came, bytes_taken, TakesAll-not_passed, TakesAll-passed, Decoding}
 use Rattle.bodies.specs.Decode.{IsDue}
 use Rattle.bodies.specs.Decoding.{ChunkedState, HandsPayloadPieces, HoldsPiece, MayDecode, NoneBuffered, TakesPayload, ask_error, decoding_rules, end_answer, held_payload, most_wanted}
 use Rattle.bodies.specs.Decoding as Source
-use Rattle.bodies.specs.DecodingLaws.{hands_held, hands_none, none_held}
+use Rattle.bodies.specs.DecodingLaws.{hands_held, none_held}
 use Rattle.bodies.specs.Filters.{fault_gives}
-use Rattle.bodies.specs.declared.decoding.Decoding.{Decoding}
 use Rattle.bodies.proofs.Coming.{some_given, taken_some}
 use Rattle.bodies.proofs.Passing.{passed_none, passed_some, wire_some}
 
@@ -66,182 +46,71 @@ shown_none s d same is (inr (inr (why, breaks))) =
     let is = subst (λ c. IsBodyReader (chunked c.0) d) (sym same) is in
     inr (inr (why, breaks_at d is why (rw same breaks.name)))
 
--- behind calls of the writer, with so much held
-writer_ready : {R W : Type 0} (u : Decoding R W) → MayDecode u → (v : Buffered W StdPolicy)
-    → v.block.kind ≡ u.target.block.kind → v.block.capacity ≡ u.target.block.capacity → (n : ℕ) → n ≤ 16384
-    → MayDecode (record u { target = v; held = n })
-writer_ready u ready v kind same n most = record {
-  capacity = ready.capacity;
-  whole = ready.whole;
-  target = record { plain = kind ∙ ready.target.plain; capacity = omega (arith, same, ready.target.capacity) };
-  room = ready.room;
-  held = most;
-}
-
-module _ {R W : Type 0} (remaining : R → Option (List ℕ)) (s : Decoding R W) (ready : MayDecode s) where
-  abbrev rules : FilterRules (Decoding R W) InputFault
-  rules = decoding_rules remaining
-
-  pub held_still : 0 < s.held → HoldsPiece remaining s s
-  held_still some = record {
-    hands = hands_none remaining s s refl refl;
-    told = refl;
-    still = refl;
-    kept = λ some. some;
-    all = inl some;
-    ready = ready;
-  }
-
-  -- none was held, and payload was read into the piece
-  module _ (none : s.held ≡ 0) (m : ChunkedState R) (out : List ℕ) (len : length out ≡ length s.piece.items) where
-    abbrev read : ChunkedState R → ℕ → Decoding R W
-    read t n = record s { source = t; piece = with_items s.piece out; held = n }
-
-    refilled : (with_items s.piece out).items ≡ out
-    refilled = with_items_is s.piece out (len ∙ sym s.piece.ok.0)
-
-    module _ (t : ChunkedState R) (n : ℕ)
-        (went : BodyWent remaining std_read_rules (chunked s.source.coding.0) s.source (take n out) t) where
-      read_hands : HandsPayloadPieces remaining s [] (read t n)
-      read_hands = hands_held remaining s (read t n) (take n out) went
-          (ap (λ l. l ++ take n out) (none_held remaining s none) ∙ sym (ap (λ l. take n l) refilled))
-
-      read_ready : n ≤ 16384 → IsBodyReader (chunked t.coding.0) t → MayDecode (read t n)
-      read_ready most whole = record {
-        capacity = omega (arith, ready.capacity, went.along.capacity);
-        whole = whole;
-        target = ready.target;
-        room = ap length refilled ∙ len ∙ ready.room;
-        held = most;
-      }
-
-    pub held_on : (n : ℕ) → BodyWent remaining std_read_rules (chunked s.source.coding.0) s.source (take n out) m
-        → m.reader.log ≡ s.source.reader.log → n ≤ length out → IsBodyReader (chunked m.coding.0) m
-        → (n ≡ 8191) ⊎ NoneBuffered m → HoldsPiece remaining s (read m n)
-    held_on n went told bound whole all = record {
-      hands = read_hands m n went;
-      told = told;
-      still = refl;
-      kept = λ some. absurd (omega (arith, some, none));
-      all = inr all;
-      ready = read_ready m n went (omega (arith, bound, len, ready.room)) whole;
-    }
+module _ {R W : Type 0} (remaining : R → Option (List ℕ)) {s : Decoding R W} (ready : MayDecode s) where
+  abbrev decoding : FilterRules (Decoding R W) InputFault
+  decoding = decoding_rules remaining
 
   -- a piece is held
-  module _ (u : Decoding R W) (held : HoldsPiece remaining s u) (v : Buffered W StdPolicy)
+  module _ {u : Decoding R W} (held : HoldsPiece remaining s u) (v : Buffered W StdPolicy)
       (kind : v.block.kind ≡ u.target.block.kind) (same : v.block.capacity ≡ u.target.block.capacity) where
     abbrev piece : List ℕ
     piece = held_payload u
 
-    -- a piece that is held could not be written, or was
+    -- and could not be written, or was
     abbrev pub Takes : Result (Unit {0}) Error → Type 0
     Takes answer = TakesAll (length piece + 0) (λ _. ⊥) u.target (piece ++ []) answer v
 
-    took : (pieces : List (List ℕ)) → WritesInOrder u.target (concat pieces) v → TakesPayload s.target pieces v
-    took pieces order = record {
-      in_order = subst (λ w. WritesInOrder w (concat pieces) v) held.still order;
-      room = same ∙ ap (λ w. w.block.capacity) held.still;
-    }
+    pub not_written : (e : Error) → Takes (Err e) → FilterPasses decoding s (Err e) (record u { target = v })
+    not_written e takes =
+        let wrote = rw held.still at (TakesAll-not_passed u.target v 0 0 {Other = λ _. ⊥} takes same (λ no. no)) in
+        let order = rw held.still at takes.taken in
+        let hands = hands_held remaining s (record u { target = v }) held.hands.payload held.hands.went held.hands.order in
+        let answers : PassAnswers decoding s (Err e) (record u { target = v }) = ([], search rules, omega arith) in
+        search rules
 
-    pub not_written : (e : Error) → Takes (Err e) → FilterPasses rules s (Err e) (record u { target = v })
-    not_written e takes = record {
-      told = held.told;
-      ready = writer_ready u held.ready v kind same u.held held.ready.held;
-      closed = λ closed. closed;
-      wrote = rw held.still at (TakesAll-not_passed u.target v 0 0 {Other = λ _. ⊥} takes same (λ no. no));
-      answers = (
-        [],
-        record {
-          hands = hands_held remaining s (record u { target = v }) held.hands.payload held.hands.went held.hands.order;
-          takes = took [] takes.taken;
-        },
-        omega arith,
-      );
-    }
-
-    pub written : 0 < u.held → Takes (Ok tt) → FilterPasses rules s (Ok true) (record u { target = v; held = 0 })
+    pub written : 0 < u.held → Takes (Ok tt) → FilterPasses decoding s (Ok true) (record u { target = v; held = 0 })
     written some takes =
         let long : 0 < length piece =
         omega (arith, some, length-take-le u.held u.piece.items (omega (arith, held.ready.held, held.ready.room))) in
         let all : length (piece ++ []) ≡ length piece = ap length (append-nil piece) in
-        record {
-          told = held.told;
-          ready = writer_ready u held.ready v kind same 0 (omega arith);
-          closed = λ closed. closed;
-          wrote = rw held.still at (TakesAll-passed u.target v 0 0 {Other = λ _. ⊥} takes (omega (arith, all))
-              (omega (arith, all, long)) (λ _. same) (omega (arith, same)));
-          answers = (
-            piece,
-            record {
-              hands = record {
-                payload = held.hands.payload;
-                went = held.hands.went;
-                order = held.hands.order ∙ sym (append-nil piece) ∙ sym (append-nil (piece ++ []));
-                some = All-cons (λ p. 0 < length p) piece [] long (All-nil (λ p. 0 < length p));
-              };
-              takes = took (piece ∷ []) takes.taken;
-            },
-            inl (omega (
-              arith,
-              all,
-              long,
-              taken_more u.target v (piece ++ []) takes.taken,
-              ap (λ w. bytes_taken (target_of w)) held.still,
-            )),
-          );
-        }
-
-  -- all that was taken in was flushed, or not
-  module _ {tells : W → StreamLog} {trace : W → W → Type 0} (v : Buffered W StdPolicy) where
-    pub flushes_all : (answer : Result (Unit {0}) Error) → WasFlushed tells trace s.target answer v
-        → FilterFlushes rules s answer (record s { target = v })
-    flushes_all answer f = record {
-      told = refl;
-      ready = writer_ready s ready v f.kind f.capacity s.held ready.held;
-      closed = λ closed. closed;
-      wrote = WasFlushed-writes s.target v f;
-      steps = f.steps;
-      quiet = λ drops. absurd drops;
-      moves = record {
-        hands = hands_none remaining s (record s { target = v }) refl refl;
-        takes = record { in_order = f.in_order; room = f.capacity };
-      };
-      lacks = λ lacks. lacks;
-      sent = WasFlushed-sent s.target v answer f;
-    }
+        let wrote = rw held.still at (TakesAll-passed u.target v 0 0 {Other = λ _. ⊥} takes (omega (arith, all))
+            (omega (arith, all, long)) (λ _. same) (omega (arith, same))) in
+        let order = rw held.still at takes.taken in
+        let handed = held.hands.order ∙ sym (append-nil piece) ∙ sym (append-nil (piece ++ [])) in
+        let more = taken_more u.target v (piece ++ []) takes.taken in
+        let each = All-cons (λ (p : List ℕ). 0 < length p) piece [] long (All-nil (λ p. 0 < length p)) in
+        let answers : PassAnswers decoding s (Ok true) (record u { target = v; held = 0 }) = (
+          piece,
+          search rules,
+          inl (omega (arith, all, long, more, ap (λ w. bytes_taken (target_of w)) held.still)),
+        ) in
+        search rules
 
   -- the reader inside was asked for a piece
   module _ (none : s.held ≡ 0) (m : ChunkedState R) (out : List ℕ) (len : length out ≡ length s.piece.items) where
     abbrev asked : ChunkedState R → ℕ → Decoding R W
-    asked = read none m out len
+    asked t n = record s { source = t; piece = with_items s.piece out; held = n }
 
     asks_so : (t : ChunkedState R) (n : ℕ) → n ≤ 16384
         → BodyWent remaining std_read_rules (chunked s.source.coding.0) s.source (take n out) t
         → IsBodyReader (chunked t.coding.0) t → Source.AsksPromptly s.source t
         → t.reader.log.reads.zero_reads ≤ s.source.reader.log.reads.zero_reads + 1
-        → (answer : Result Bool (AskError InputFault)) → AskAnswers rules s answer (asked t n)
-        → FilterAsks rules s answer (asked t n)
-    asks_so t n most went whole over once answer answers = record {
-      told = refl;
-      ready = read_ready none m out len t n went most whole;
-      moves = record {
-        hands = read_hands none m out len t n went;
-        takes = record { in_order = WritesInOrder-none s.target; room = refl };
-      };
-      sent = λ sent. sent;
-      asks = over;
-      once = record { once = once; quiet = λ closed. absurd closed; closed = λ closed. closed };
-      grows = over.grows;
-      looks = elim answer as (λ a. OnErr a (Unit {0})) [ Ok more ↦ tt | Err why ↦ tt ];
-      answers = answers;
-    }
+        → (answer : Result Bool (AskError InputFault)) → AskAnswers decoding s answer (asked t n)
+        → FilterAsks decoding s answer (asked t n)
+    asks_so t n most went whole over once answer answers =
+        let refilled = with_items_is s.piece out (len ∙ sym s.piece.ok.0) in
+        let hands = hands_held remaining s (asked t n) (take n out) went
+        (ap (λ l. l ++ take n out) (none_held remaining s none) ∙ sym (ap (λ l. take n l) refilled)) in
+        let order = WritesInOrder-none s.target in
+        let looks : OnErr answer (Unit {0}) = elim answer as (λ a. OnErr a (Unit {0})) [ Ok more ↦ tt | Err why ↦ tt ] in
+        search rules
 
     -- nothing was handed out
     asks_none : (t : ChunkedState R) → BodyWent remaining std_read_rules (chunked s.source.coding.0) s.source [] t
         → IsBodyReader (chunked t.coding.0) t → Source.AsksPromptly s.source t
         → t.reader.log.reads.zero_reads ≤ s.source.reader.log.reads.zero_reads + 1
-        → (answer : Result Bool (AskError InputFault)) → AskAnswers rules s answer (asked t s.held)
-        → FilterAsks rules s answer (asked t s.held)
+        → (answer : Result Bool (AskError InputFault)) → AskAnswers decoding s answer (asked t s.held)
+        → FilterAsks decoding s answer (asked t s.held)
     asks_none t went whole over once answer answers =
         asks_so t s.held (omega (arith, none)) (rw none went) whole over once answer answers
 
@@ -263,7 +132,7 @@ module _ {R W : Type 0} (remaining : R → Option (List ℕ)) (s : Decoding R W)
       here = subst (λ c. IsBodyReader (chunked c.0) m) (sym p.went.coding) p.whole
 
     some_came : (t : ChunkedState R) (n : ℕ) → Source.AsksPromptly s.source t
-        → came s.source.reader.log.reads < came t.reader.log.reads → SomeCame rules s (asked t n)
+        → came s.source.reader.log.reads < came t.reader.log.reads → SomeCame decoding s (asked t n)
     some_came t n over more = record {
       asks = elim over.asked [
         | inl same ↦ absurd (omega (arith, more, ap (λ l. came l.reads) same))
@@ -274,7 +143,7 @@ module _ {R W : Type 0} (remaining : R → Option (List ℕ)) (s : Decoding R W)
 
     pub asked_more : NoneBuffered s.source → (n : ℕ)
         → ReadsPayload remaining std_read_rules (chunked s.source.coding.0) s.source out (Ok n) m → 0 < n
-        → FilterAsks rules s (Ok true) (asked m n)
+        → FilterAsks decoding s (Ok true) (asked m n)
     asked_more lacks n p some =
         let gave = p.answers.1 in
         asks_so m n (omega (arith, p.answers.0, len, ready.room)) p.went (here p) (over p)
@@ -293,10 +162,10 @@ module _ {R W : Type 0} (remaining : R → Option (List ℕ)) (s : Decoding R W)
     faulted : (e : Error) (came : Bool) → came ≡ nat_lt (taken_count s.source) (taken_count m)
         → BodyWent remaining std_read_rules (chunked s.source.coding.0) s.source [] m
         → TellsOnce remaining std_read_rules (chunked s.source.coding.0) s.source.reader s.source.place 0 m.reader m.place
-        → (t : ChunkedState R) → most_wanted t ≡ most_wanted m → rules.waits (asked t s.held)
-        → FailedToRead rules e s (asked t s.held) → StaysOpen rules s (asked t s.held)
-        → (true ≡ nat_lt (taken_count s.source) (taken_count m) → SomeCame rules s (asked t s.held))
-        → AskAnswers rules s (Err (if came then ask.IoBehind e else ask.Io e)) (asked t s.held)
+        → (t : ChunkedState R) → most_wanted t ≡ most_wanted m → decoding.waits (asked t s.held)
+        → FailedToRead decoding e s (asked t s.held) → StaysOpen decoding s (asked t s.held)
+        → (true ≡ nat_lt (taken_count s.source) (taken_count m) → SomeCame decoding s (asked t s.held))
+        → AskAnswers decoding s (Err (if came then ask.IoBehind e else ask.Io e)) (asked t s.held)
     faulted e true is went tells t same waits fault still some =
         (waits, fault, still, omega (arith, same, passed_some remaining s.source m went tells is), some is)
     faulted e false is went tells t same waits fault still some =
@@ -314,7 +183,7 @@ module _ {R W : Type 0} (remaining : R → Option (List ℕ)) (s : Decoding R W)
     pub asked_failed : NoneBuffered s.source → (e : BodyError Malformed) (came : Bool)
         → came ≡ nat_lt (taken_count s.source) (taken_count m)
         → ReadsPayload remaining std_read_rules (chunked s.source.coding.0) s.source out (Err e) m
-        → FilterAsks rules s (Err (ask_error came e)) (asked m s.held)
+        → FilterAsks decoding s (Err (ask_error came e)) (asked m s.held)
     asked_failed lacks (body.Wrong why right) came is p =
         let gave = p.answers.1 in
         let breaks = breaks_at m (here p) why (rw p.went.coding p.answers.2.name) in
@@ -363,7 +232,7 @@ module _ {R W : Type 0} (remaining : R → Option (List ℕ)) (s : Decoding R W)
 
         asks_behind : (answer : Result Bool (AskError InputFault))
             → t.reader.log.reads.zero_reads ≤ m.reader.log.reads.zero_reads + 1
-            → AskAnswers rules s answer (asked t s.held) → FilterAsks rules s answer (asked t s.held)
+            → AskAnswers decoding s answer (asked t s.held) → FilterAsks decoding s answer (asked t s.held)
         asks_behind answer once answers =
             asks_none t (BodyWent-joins remaining std_read_rules (chunked s.source.coding.0) s.source m t [] [] first
             (subst (λ x. BodyWent remaining std_read_rules (chunked x.0) m [] t) first.coding looks.went))
@@ -373,7 +242,7 @@ module _ {R W : Type 0} (remaining : R → Option (List ℕ)) (s : Decoding R W)
       -- none does, or some, or that can't be told
       pub asked_behind : (came : Bool) → came ≡ nat_lt (taken_count s.source) (taken_count m) → (end : Result Bool Error)
           → LooksBehind remaining std_read_rules (chunked m.coding.0) m end t
-          → FilterAsks rules s (end_answer came end (taken_count t)) (asked t s.held)
+          → FilterAsks decoding s (end_answer came end (taken_count t)) (asked t s.held)
       asked_behind came is (Ok true) looks =
           let met = looks.answers.1 in
           asks_behind looks (Ok false) (omega (arith, met.1))

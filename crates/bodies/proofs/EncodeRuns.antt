@@ -179,26 +179,14 @@ module _ {R W : Type 0} (trace : W → W → Type 0) (first : Buffered R StdPoli
 
 -- where all went well: what was read is the payload of what was written
 pub encode_says : {read read' written' written'' : StreamLog} (answer : Result (Unit {0}) (RunError InputFault))
-    → Encodes read read' written' written'' answer → record {
-      encoded : OnOk answer ((body : List ℕ) × (payload : List ℕ) × IsEncodedBody body payload
-          × (read'.reads.given ≡ read.reads.given ++ payload)
-          × (written''.writes.received ≡ written'.writes.received ++ body));
-      encodes : Encodes read read' written' written'' answer;
-    }
+    → Encodes read read' written' written'' answer → OnOk answer ((body : List ℕ) × (payload : List ℕ)
+    × IsEncodedBody body payload × (read'.reads.given ≡ read.reads.given ++ payload)
+    × (written''.writes.received ≡ written'.writes.received ++ body))
 encode_says (Ok _) encodes =
     let m = encodes.ran.0.moved in
     let ended = encodes.ran.1 in
-    record {
-      encoded = (
-        m.sent,
-        m.taken,
-        subst (λ l. IsEncodedBody l m.taken) (ap (λ l. m.sent ++ l) encodes.ran.0.all ∙ append-nil m.sent) ended.body,
-        all_given m ended.all,
-        m.received,
-      );
-      encodes = encodes;
-    }
-encode_says (Err e) encodes = record { encoded = tt; encodes = encodes }
+    let body = rw (encodes.ran.0.all, append-nil) at ended.body in (m.sent, m.taken, body, all_given m ended.all, m.received)
+encode_says (Err e) encodes = tt
 
 -- a buffer was refused
 pub refused : (read read' written written' : StreamLog) (e : Error) → RefusedBeforeCalls e read read' written written'

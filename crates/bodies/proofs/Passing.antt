@@ -1,9 +1,6 @@
 -- How far bytes that came within a body, and are no payload, lead on.
-use Rattle.std.proofs.Common.{◌≡◌, ℕ, zero, suc, ◌+◌, ◌-◌, ◌^◌, ◌<◌, ◌≤◌, List, [], length, min, nat_lt, if◌then◌else◌, Bool, true, false, Option, refl, ap, ◌∙◌, arith, length-append, length-drop, length-take-le, inl, inr}
-use Rattle.std.proofs.lemmas.Bool.Decides.{nat_tests}
-use Rattle.body_reader.specs.Between.{PassesMany, PassesOnce, TellsOnce}
-use Rattle.chunked.specs.declared.place.Place.{Place}
-use Rattle.bodies.specs.Words.{Buffered, BodyWent, Limits, StdPolicy, chunked, std_read_rules, taken_count}
+use Rattle.std.proofs.Common.{◌≡◌, ℕ, zero, suc, ◌+◌, ◌-◌, ◌^◌, ◌<◌, ◌≤◌, List, [], length, min, nat_lt, if◌then◌else◌, true, false, Option, ap, ◌∙◌, arith, length-append, length-drop, length-take-le, inl, inr}
+use Rattle.bodies.specs.Words.{Buffered, BodyWent, Limits, StdPolicy, chunked, std_read_rules, taken_count, nat_tests, PassesMany, PassesOnce, TellsOnce, Place}
 use Rattle.bodies.specs.Decoding.{ChunkedState, most_wanted}
 
 module _ {R : Type 0} (remaining : R → Option (List ℕ)) (limits : Limits) where
@@ -60,29 +57,14 @@ module _ {R : Type 0} (remaining : R → Option (List ℕ)) (limits : Limits) wh
         gone = omega (arith, first.gone, then'.gone);
       }
 
--- what a test of two numbers means
-lt_true : (a b : ℕ) → true ≡ nat_lt a b → a < b
-lt_true a b is = grind (arith, nat_tests)
-
-lt_false : (a b : ℕ) → false ≡ nat_lt a b → b ≤ a
-lt_false a b is = grind (arith, nat_tests)
-
 -- behind so many bytes, as far as they are counted, fewer may come where some more came, and as many where none did
-fewer : (most a b j k n : ℕ) (short long : Bool) → short ≡ nat_lt a most → b ≡ a + n → k + n ≤ j → min a most < min b most
-    → (if long then k else 0) < (if short then j else 0)
-fewer most a b j k n true true is more few less = omega (arith, more, few, less)
-fewer most a b j k n true false is more few less = omega (arith, more, few, less)
-fewer most a b j k n false long is more few less = absurd (omega (arith, lt_false a most is, less))
+fewer : (most a b j k n : ℕ) → b ≡ a + n → k + n ≤ j → true ≡ nat_lt (min a most) (min b most)
+    → (if nat_lt b most then k else 0) < (if nat_lt a most then j else 0)
+fewer most a b j k n more few came = grind (arith, nat_tests)
 
-as_many : (most a b j k n : ℕ) (short long : Bool) → short ≡ nat_lt a most → long ≡ nat_lt b most → b ≡ a + n → (n ≡ 0 → k ≡ j)
-    → min b most ≤ min a most → (if long then k else 0) ≡ (if short then j else 0)
-as_many most a b j k n true true is is' more same less =
-    same (omega (arith, lt_true a most is, lt_true b most is', more, less))
-as_many most a b j k n true false is is' more same less =
-    absurd (omega (arith, lt_true a most is, lt_false b most is', less))
-as_many most a b j k n false true is is' more same less =
-    absurd (omega (arith, lt_false a most is, lt_true b most is', more))
-as_many most a b j k n false false is is' more same less = refl
+as_many : (most a b j k n : ℕ) → b ≡ a + n → (n ≡ 0 → k ≡ j) → false ≡ nat_lt (min a most) (min b most)
+    → (if nat_lt b most then k else 0) ≡ (if nat_lt a most then j else 0)
+as_many most a b j k n more same came = grind (arith, nat_tests)
 
 -- where no payload was handed out, what was taken was passed
 module _ {R : Type 0} (remaining : R → Option (List ℕ)) (s m : ChunkedState R)
@@ -112,23 +94,19 @@ module _ {R : Type 0} (remaining : R → Option (List ℕ)) (s m : ChunkedState 
   longer = ap length went.taken ∙ length-append s.taken went.wire
 
   pub passed_some : true ≡ nat_lt (taken_count s) (taken_count m) → most_wanted m < most_wanted s
-  passed_some came = rw went.coding (fewer (2 ^ 64 - 1) (length s.taken) (length m.taken)
-      ((chunked s.coding.0).between s.place) ((chunked s.coding.0).between m.place) (length went.wire) _ _ refl longer
-      (omega (arith, passed.few, wired)) (lt_true (taken_count s) (taken_count m) came))
+  passed_some = rw went.coding (fewer (2 ^ 64 - 1) (length s.taken) (length m.taken) ((chunked s.coding.0).between s.place)
+      ((chunked s.coding.0).between m.place) (length went.wire) longer (omega (arith, passed.few, wired)))
 
   pub passed_none : false ≡ nat_lt (taken_count s) (taken_count m) → most_wanted m ≡ most_wanted s
-  passed_none came = rw went.coding (as_many (2 ^ 64 - 1) (length s.taken) (length m.taken)
-      ((chunked s.coding.0).between s.place) ((chunked s.coding.0).between m.place) (length went.wire) _ _ refl refl longer
-      (λ none. ap (chunked s.coding.0).between (passed.none (omega (arith, none, wired))))
-      (lt_false (taken_count s) (taken_count m) came))
+  passed_none = rw went.coding (as_many (2 ^ 64 - 1) (length s.taken) (length m.taken) ((chunked s.coding.0).between s.place)
+      ((chunked s.coding.0).between m.place) (length went.wire) longer
+      (λ none. ap (chunked s.coding.0).between (passed.none (omega (arith, none, wired)))))
 
 -- where more was taken some bytes were
 pub wire_some : {R : Type 0} (remaining : R → Option (List ℕ)) (s m : ChunkedState R) {payload : List ℕ}
     (went : BodyWent remaining std_read_rules (chunked s.coding.0) s payload m)
     → true ≡ nat_lt (taken_count s) (taken_count m) → 0 < length went.wire
-wire_some remaining s m went came = omega (
-  arith,
-  lt_true (taken_count s) (taken_count m) came,
-  ap length went.taken,
-  length-append s.taken went.wire,
-)
+wire_some remaining s m went came =
+    let more : length m.taken ≡ length s.taken + length went.wire =
+    ap length went.taken ∙ length-append s.taken went.wire in
+    grind (arith, nat_tests)

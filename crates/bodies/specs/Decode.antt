@@ -1,11 +1,8 @@
 -- What a run of `decode` moves from a reader to a writer.
 use Rattle.std.specs.Prelude.{◌≡◌, ℕ, ◌-◌, ◌^◌, ◌<◌, ◌⊎◌, List, [], ◌++◌, length, min, Result, Ok, Err}
-use Rattle.body_reader.specs.Coding.{Leads}
 use Rattle.chunked.specs.Place.{IsPlace}
-use Rattle.chunked.specs.declared.error.Malformed.{Malformed}
-use Rattle.chunked.specs.declared.place.Place.{Place}
 use Rattle.chunked.specs.declared.place.Place.TheVariants.{Line}
-use Rattle.bodies.specs.Words.{failure_count, StreamLog, IsBodyOfChunks, BreaksAt, chunked, Limits, RunError, InputFault, RunsPromptly, MetNoFault, ReadFailed, WriteGaveUp, OverCount, RefusedBeforeCalls, GaveNothing}
+use Rattle.bodies.specs.Words.{failure_count, StreamLog, IsBodyOfChunks, BreaksAt, chunked, Limits, RunError, InputFault, RunsPromptly, MetNoFault, ReadFailed, WriteGaveUp, OverCount, RefusedBeforeCalls, GaveNothing, Leads, Malformed, Place}
 use Rattle.bodies.specs.Moved.{Moved, MovedAll}
 use Rattle.programs.specs.declared.error.RunError.TheVariants.{Wrong, Read, Write, Io}
 use Rattle.bodies.specs.declared.fault.InputFault.TheVariants.{NotChunked, Truncated, Behind}

@@ -1,20 +1,12 @@
 -- A filter that hands out the payload of a body.
 use Rattle.std.specs.Prelude.{◌≡◌, ℕ, ◌-◌, ◌^◌, ◌<◌, ◌≤◌, ◌⊎◌, if◌then◌else◌, nat_lt, List, [], ◌++◌, length, take, Bool, true, false, Result, Ok, Err, Option}
-use Rattle.std.specs.List.{concat, All}
-use Rattle.buffer_redux.specs.Block.{Plain}
-use Rattle.body_reader.specs.declared.error.BodyError.{BodyError}
 use Rattle.body_reader.specs.declared.error.BodyError.TheVariants as body
 use Rattle.chunked.specs.Place.{most_between}
-use Rattle.chunked.specs.declared.coding.Chunked.{Chunked}
-use Rattle.chunked.specs.declared.error.Malformed.{Malformed}
-use Rattle.chunked.specs.declared.place.Place.{Place}
-use Rattle.forward.specs.declared.error.AskError.{AskError}
 use Rattle.forward.specs.declared.error.AskError.TheVariants.{Wrong}
 use Rattle.forward.specs.declared.error.AskError.TheVariants as ask
-use Rattle.bodies.specs.Words.{Error, Flushes, RanDry, WritesInOrder, Buffered, std_read_rules, StdPolicy, BodyState, BodyWent, BreaksAt, IsBodyOfChunks, IsBodyReader, TookWholeBody, LooksBehind, chunked, handed_of, taken_count, FilterRules, AllSent, target_of, InputFault}
+use Rattle.bodies.specs.Words.{Error, Flushes, RanDry, WritesInOrder, Buffered, std_read_rules, StdPolicy, BodyState, BodyWent, BreaksAt, IsBodyOfChunks, IsBodyReader, TookWholeBody, LooksBehind, chunked, handed_of, taken_count, FilterRules, AllSent, target_of, InputFault, concat, All, Plain, BodyError, Chunked, Malformed, Place, AskError, Decoding}
 use Rattle.bodies.specs.Decode.{IsDue}
 use Rattle.bodies.specs.Filters.{Asked}
-use Rattle.bodies.specs.declared.decoding.Decoding.{Decoding}
 use Rattle.bodies.specs.declared.fault.InputFault.TheVariants.{NotChunked, Truncated, Behind}
 
 -- a buffered writer whose buffer is larger than a piece of payload

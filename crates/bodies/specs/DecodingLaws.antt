@@ -1,16 +1,9 @@
 -- The payload of a body is handed out in order, and what is due is sent with it.
 use Rattle.std.proofs.Common.{◌≡◌, ℕ, ◌<◌, inl, inr, List, [], ◌++◌, length, take, Option, Result, Ok, Err, refl, sym, ap, subst, ◌∙◌, arith, append-nil, append_assoc}
-use Rattle.std.specs.List.{concat}
-use Rattle.std.proofs.lemmas.List.Folds.{concat-append}
-use Rattle.std.proofs.lemmas.List.Elements.{All-append, All-nil}
-use Rattle.buffer_redux.specs.WriterLaws.{WritesInOrder-joins, WritesInOrder-none}
-use Rattle.body_reader.specs.Between.{LeavesRoom}
-use Rattle.body_reader.specs.BodyReaderLaws.{BodyWent-joins, BodyWent-none}
-use Rattle.bodies.specs.Words.{std_read_rules, StdPolicy, BodyWent, chunked, handed_of, AsksSent, FilterRules, NeverGaveNothing, IsLawful, Moves, StaysOpen, AllSent, sent_all, taken_more, InputFault}
+use Rattle.bodies.specs.Words.{std_read_rules, StdPolicy, BodyWent, chunked, handed_of, AsksSent, FilterRules, NeverGaveNothing, IsLawful, Moves, StaysOpen, AllSent, sent_all, taken_more, InputFault, concat, concat-append, All-append, All-nil, WritesInOrder-joins, WritesInOrder-none, LeavesRoom, BodyWent-joins, BodyWent-none, Decoding}
 use Rattle.bodies.specs.Decode.{IsDue}
 use Rattle.bodies.specs.Filters.{asked_after}
 use Rattle.bodies.specs.Decoding.{AsksPromptly, HandsPayloadPieces, PayloadEnds, TakesPayload, decoding_rules, held_payload}
-use Rattle.bodies.specs.declared.decoding.Decoding.{Decoding}
 use Rattle.bodies.specs.declared.fault.InputFault.TheVariants.{NotChunked, Truncated, Behind}
 
 module _ {R W : Type 0} (remaining : R → Option (List ℕ)) where

@@ -2,10 +2,10 @@
 pub use Rattle.bodies.specs.declared.decoding.Decoding.{Decoding}
 pub use Rattle.bodies.specs.declared.encoding.Encoding.{Encoding}
 pub use Rattle.bodies.specs.declared.fault.InputFault.{InputFault}
-pub use Rattle.body_reader.specs.Between.{FaultedOnce, LeavesRoom, PassesMany}
+pub use Rattle.body_reader.specs.Between.{FaultedOnce, LeavesRoom, PassesMany, EachGave, PassesOnce, TellsOnce}
 pub use Rattle.body_reader.specs.BodyReader.{BodyState, BodyWent, Breaks, EndsEarly, FillsPayload, HandsBuffered, IsBodyReader, LooksBehind, ReadsPayload, TookWholeBody, begun, handed_of, taken_count}
 pub use Rattle.body_reader.specs.BodyReaderLaws.{BodyWent-joins, BodyWent-none, begun-is}
-pub use Rattle.body_reader.specs.Coding.{Carries, Leads, LeadsOpen}
+pub use Rattle.body_reader.specs.Coding.{Carries, Leads, LeadsOpen, AskedFor, IsBody}
 pub use Rattle.body_reader.specs.CodingLaws.{Leads-done, Leads-joins, Leads-more, Leads-none}
 pub use Rattle.body_reader.specs.declared.error.BodyError.{BodyError}
 pub use Rattle.buffer_redux.specs.Block.{IsBlock, Kind, OnKind, Plain, Ring, usable}
@@ -27,19 +27,19 @@ pub use Rattle.chunked.specs.Chunk.{IsCarried, IsChunks, body_end, chunk, size_d
 pub use Rattle.chunked.specs.ChunkedWriter.{ChunkedWriterState, ChunksWent, Finishes, LacksPayload, NotFinished, WritesChunk, around, taken_payloads, unbegun}
 pub use Rattle.chunked.specs.ChunkedWriterLaws.{ChunksWent-joins, ChunksWent-none}
 pub use Rattle.chunked.specs.Coding.{BreaksAt, IsWrongNext, chunked}
-pub use Rattle.chunked.specs.CodingLaws.{breaks_at, chunked_lawful}
+pub use Rattle.chunked.specs.CodingLaws.{breaks_at, chunked_lawful, follows}
 pub use Rattle.chunked.specs.declared.coding.Chunked.{Chunked}
 pub use Rattle.chunked.specs.declared.error.Malformed.{Malformed}
 pub use Rattle.chunked.specs.declared.limits.Limits.{Limits}
 pub use Rattle.chunked.specs.declared.place.Place.{Place}
-pub use Rattle.forward.specs.Filter.{AskAnswers, AsksSent, FilterAsks, FilterFlushes, FilterPasses, FilterRules, IsLawful, Moves, NeverGaveNothing, SomeCame, StaysOpen}
+pub use Rattle.forward.specs.Filter.{AskAnswers, AsksSent, FilterAsks, FilterFlushes, FilterPasses, FilterRules, IsLawful, Moves, NeverGaveNothing, PassAnswers, SomeCame, StaysOpen, FailedToRead}
 pub use Rattle.forward.specs.Forward.{ForwardAnswers, Forwarded, ForwardedFirst, NoneFailed, StopsBy}
 pub use Rattle.forward.specs.ForwardLaws.{ForwardedFirst-all, Forwards-moves, Forwards-runs, Goes-holds, Goes-leaves, Goes-per_ask}
 pub use Rattle.forward.specs.Prompt.{AskedLast, AsksGiveOrFail, RunsPromptly, WritesOn}
 pub use Rattle.forward.specs.PromptLaws.{AskedLast-after, HoldsNothingBack-on, RunsPromptly-none, WritesOn-joins}
 pub use Rattle.forward.specs.Streams.{FaultsOften, FewFaults, WriteGaveUp, came}
 pub use Rattle.forward.specs.StreamsLaws.{MetNoFault-joins, WriteGaveUp-after, WriteGaveUp-so}
-pub use Rattle.forward.specs.Target.{failure_count}
+pub use Rattle.forward.specs.Target.{failure_count, bytes_taken}
 pub use Rattle.forward.specs.declared.error.AskError.{AskError}
 pub use Rattle.forward.specs.declared.error.Cause.{Cause}
 pub use Rattle.programs.specs.Outcome.{IsErrorOf}

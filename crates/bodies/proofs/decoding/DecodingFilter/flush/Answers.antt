@@ -1,7 +1,8 @@
 -- The writer's flush answers, and nothing is handed out or taken in.
-use Rattle.bodies.proofs.DecodingCalls.{flushes_all}
+use Rattle.std.proofs.Common.{rules}
+use Rattle.bodies.specs.Words.{WasFlushed-sent, WasFlushed-writes}
+use Rattle.bodies.specs.DecodingLaws.{hands_none}
 use Rattle.bodies.proofs.decoding.DecodingFilter.flush.Goals as goal
 
 pub returns : goal.returns
-returns g c =
-    flushes_all g.R.TellRead.remaining c.args.self.now c.requires c.flush.new.self c.flush.result c.flush.ensures.flushed
+returns g c = search (rules, WasFlushed-writes, WasFlushed-sent, hands_none)

@@ -8,13 +8,11 @@ pub returns-in_err-put_all : goal.returns-in_err-put_all
 returns-in_err-put_all g c =
     let p = err_from_is_err_and c.from_residual.result c.from_residual.ensures.1 in
     let put = c.in_err-put_all.ensures in
-    rw (p.1, p.2) (not_written g.R.TellRead.remaining c.args.self.now c.requires c.hold.new.filter c.hold.ensures
-    c.put_all.new.target put.kind put.capacity _ (rw c.as_slice.ensures.value at put.takes))
+    rw (p.1, p.2) (not_written g.R.TellRead.remaining c.requires c.hold.ensures _ put.kind put.capacity _
+    (rw c.as_slice.ensures.value at put.takes))
 
 pub returns : goal.returns
 returns g c =
-    let u = c.hold.new.filter in
-    let v = c.put_all.new.target in
     let put = c.in_ok-put_all.ensures in
-    written g.R.TellRead.remaining c.args.self.now c.requires u c.hold.ensures v put.kind put.capacity
+    written g.R.TellRead.remaining c.requires c.hold.ensures _ put.kind put.capacity
     (omega (arith, c.if-self-eq0.false)) (rw c.as_slice.ensures.value at put.takes)

@@ -6,19 +6,17 @@ use Rattle.bodies.proofs.encoding.EncodingFilter.pass.Goals as goal
 
 pub returns-in_err-count : goal.returns-in_err-count
 returns-in_err-count g c =
-    let s = c.args.self.now in
     let e = c.in_err-count.field-0.0 in
     let p = err_from_is_err_and c.from_residual.result c.from_residual.ensures.1 in
     rw (p.1, p.2)
-    (not_passed g.W.Tell.log g.W.TellWrite.trace s c.requires (grind (arith, nat_tests))
+    (not_passed c.requires _ _ (grind (arith, nat_tests))
     c.buffer.ensures.whole c.write.new.self e
     (rw c.buffer-2.ensures.value at c.in_err-count.ensures.writes))
 
 pub returns : goal.returns
 returns g c =
-    let s = c.args.self.now in
     let n = c.in_ok-count.count in
-    passed g.W.Tell.log g.W.TellWrite.trace s c.requires (grind (arith, nat_tests))
+    passed c.requires _ _ (grind (arith, nat_tests))
     c.buffer.ensures.whole c.write.new.self n
     (rw c.buffer-2.ensures.value at c.in_ok-count.ensures.bound)
     (rw c.buffer-2.ensures.value at c.in_ok-count.ensures.writes)
