@@ -1,13 +1,10 @@
 -- What the reader of a body does, told of a reader in one.
 use Rattle.std.proofs.Common.{◌≡◌, ◌↔◌, ◌≤◌, ◌∙◌, ℕ, List, [], ◌++◌, length, take, drop, Option, Result, Ok, Err, IfOk, ap, arith, length-append, refl, subst, sym, take-append-drop}
 use Rattle.std.specs.declared.io.Error.{Error}
-use Rattle.messages.specs.Names.{after_read, append_cancel_left, body_answer, body_rules, BodyCoding, BodyWent, handed_of, handed_out, InsideGoes, IsBodyReader, IsDone, IsRoomy, Leads-done, Leads-whole, LeavesPlaces, LeavesRest, LeavesRoom, Limits, ParsedHead, Place, Reader, ReadsAlong-stream, ReadsAsIo, ReadsPayload, room_of, Side, std_read_rules, StreamWent-unasked, TellsWhy, TookWholeBody, unbuffered, WhyNone}
+use Rattle.messages.specs.Names.{after_read, Agree-nothing, append_cancel_left, body_answer, body_rules, BodyCoding, BodyWent, handed_of, handed_out, heeded, InsideGoes, IsBodyReader, IsDone, IsRoomy, Leads-done, Leads-whole, LeavesPlaces, LeavesRest, LeavesRoom, Limits, ParsedHead, Place, Reader, ReadsAlong-stream, ReadsAsIo, ReadsPayload, room_of, Side, std_read_rules, StreamLog, StreamWent-unasked, TellsWhy, TookWholeBody, unbuffered, WhyNone}
 use Rattle.body_reader.specs.BodyReaderLaws.{BodyWent-leads}
-use Rattle.body_reader.specs.Coding.{heeded}
-use Rattle.body_reader.specs.CodingLaws.{Agree-nothing}
 use Rattle.body_reader.specs.declared.either.Either.TheVariants as coding
 use Rattle.body_reader.specs.declared.either.Side.TheVariants as side
-use Rattle.buffer_redux.specs.StreamLog.{StreamLog}
 use Rattle.buffer_redux.specs.declared.policy.StdPolicy.{StdPolicy}
 use Rattle.messages.specs.MessagesLaws.{body_lawful, one_ahead, same_room}
 
@@ -107,18 +104,18 @@ module _ {R : Type 0} {remaining : R → Option (List ℕ)} {s t : Reader R} {ha
         let kept = (went.keeps.spared 1 least (omega arith)).plain room.kind (omega (arith, room.capacity)) in
         omega (arith, kept.moved, went.keeps.unmoved std_stays least room.kind)
 
-    module _ (whole : IsBodyReader (body_rules s.coding) t) (limits : Limits) (head : List ℕ) (said : ParsedHead) where
-      pub body_goes : InsideGoes remaining (record { body = s; limits = limits; head = head; said = said }) handed
-          (record { body = t; limits = limits; head = head; said = said })
-      body_goes = record {
-        went = went;
-        whole = subst (λ c. IsBodyReader (body_rules c) t) (sym went.coding) whole;
-        room = body_kept;
-        moved = body_still;
-        limits = refl;
-        head = refl;
-        said = refl;
-      }
+    pub body_goes : {limits : Limits} {head : List ℕ} {said : ParsedHead} → IsBodyReader (body_rules s.coding) t
+        → InsideGoes remaining (record { body = s; limits = limits; head = head; said = said }) handed
+        (record { body = t; limits = limits; head = head; said = said })
+    body_goes whole = record {
+      went = went;
+      whole = subst (λ c. IsBodyReader (body_rules c) t) (sym went.coding) whole;
+      room = body_kept;
+      moved = body_still;
+      limits = refl;
+      head = refl;
+      said = refl;
+    }
 
 -- what a read did
 module _ {R : Type 0} {remaining : R → Option (List ℕ)} {s t : Reader R} {out : List ℕ} where

@@ -1,13 +1,10 @@
 -- Laws of heads.
 use Rattle.std.specs.Prelude.{◌≡◌, ℕ, ◌≤◌, Bool, true, false, List, [], ◌∷◌, ◌++◌, length, take}
 use Rattle.std.proofs.Common.{sym, ap, subst, inl, inr, ◌∙◌, arith, append_assoc, length-append}
-use Rattle.messages.specs.Names.{as_known, Bad, Before, Begins, behind_blank, fault_on, fault_then, head_fault, HeaderError, heads, IsHead, IsHeadFault, IsLawful, IsNoHead, known_of, length-drop, Limits, lines, lines_fault, method_kind, More, request_unique, said_fault, scanned_headers, ScanStep, Sized, Start, texts, true≢false, turn, turn_fault}
+use Rattle.messages.specs.Names.{as_known, Bad, Before, Begins, fault_on, fault_then, head_fault, HeaderError, heads, IsHead, IsHeadFault, IsLawful, IsNoHead, length-drop, Limits, lines, More, request_unique, scanned_headers, Sized, Start, texts, true≢false, turn, turn_fault}
 use Rattle.std.proofs.lemmas.Bool.Decides.{nat_tests}
-use Rattle.http1.specs.declared.fields.KnownFields.{KnownFields}
-use Rattle.http1.specs.declared.framing.MethodKind.{MethodKind}
 use Rattle.messages.specs.declared.bad_head.BadHead.{BadHead}
 use Rattle.messages.specs.declared.bad_head.BadHead.TheVariants.{CutShort}
-use Rattle.messages.specs.Lines.{too_long}
 use Rattle.messages.specs.LinesLaws.{line_fault_stays, lines_small, texts_lawful}
 
 -- no head has more bytes
@@ -57,33 +54,19 @@ abbrev is_cut : BadHead → Bool
 is_cut (CutShort have) = true
 is_cut e = false
 
-whole_turn : (place : Before) (byte : ℕ) → is_cut (turn_fault place byte) ≡ false
-whole_turn place byte = grind (arith, nat_tests)
-
-whole_then : (t : ScanStep Before) (e : BadHead) (on : Before → BadHead) → is_cut e ≡ false
-    → ((next : Before) → is_cut (on next) ≡ false) → is_cut (fault_then t e on) ≡ false
-whole_then (More next) e on is later = later next
-whole_then (Sized len) e on is later = is
-whole_then Bad e on is later = is
-
-whole_long : (place : Before) → is_cut (too_long place) ≡ false
-whole_long place = grind (arith, nat_tests)
-
 whole_lines : (place : Before) (bytes : List ℕ) → is_cut (fault_on place bytes) ≡ false
-whole_lines place [] = whole_long place
+whole_lines place [] = grind (arith, nat_tests)
 whole_lines place (byte ∷ bytes) =
-    whole_then (turn place byte) (turn_fault place byte) (λ next. fault_on next bytes) (whole_turn place byte)
-    (λ next. whole_lines next bytes)
-
-whole_said : (method : MethodKind) (minor : ℕ) (known : KnownFields) → is_cut (said_fault method minor known) ≡ false
-whole_said method minor known = grind (arith, nat_tests)
-
-whole_text : (limits : Limits) (text : List ℕ) → is_cut (lines_fault limits text) ≡ false
-whole_text limits text = grind (arith, nat_tests)
+    let whole : is_cut (turn_fault place byte) ≡ false = grind (arith, nat_tests) in
+    elim (turn place byte) as (λ t. is_cut (fault_then t (turn_fault place byte) (λ next. fault_on next bytes)) ≡ false) [
+      | More next ↦ whole_lines next bytes
+      | Sized len ↦ whole
+      | Bad ↦ whole
+    ]
 
 whole_fault : (limits : Limits) (bytes : List ℕ) (e : BadHead) → IsHeadFault limits bytes e → is_cut e ≡ false
-whole_fault limits bytes e (inl (h, few, is)) = ap is_cut is ∙ whole_said (method_kind h.method) h.minor (known_of h.fields)
-whole_fault limits bytes e (inr (none, is)) = ap is_cut is ∙ whole_text limits (behind_blank bytes)
+whole_fault limits bytes e (inl (h, few, is)) = ap is_cut is ∙ grind (arith, nat_tests)
+whole_fault limits bytes e (inr (none, is)) = ap is_cut is ∙ grind (arith, nat_tests)
 
 pub never_cut : (limits : Limits) (bytes : List ℕ) (have : ℕ) → ¬ (IsNoHead limits bytes (CutShort have))
 never_cut limits bytes have (inl (why, bad, is)) = absurd (true≢false (ap is_cut is ∙ whole_lines Start (take 16384 bytes)))

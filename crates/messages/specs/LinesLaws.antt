@@ -2,18 +2,13 @@
 use Rattle.std.specs.Prelude.{◌≡◌, ℕ, zero, suc, ◌+◌, ◌-◌, ◌<◌, ◌≤◌, ◌==◌, ◌&&◌, nat_le, if◌then◌else◌, Bool, true, false, All, IsTrue, List, [], ◌∷◌, ◌++◌, codes, flat_map, length, take}
 use Rattle.std.specs.Char.{is_ascii_digit}
 use Rattle.std.proofs.Common.{sym, ap, subst, ◌∙◌, arith, refl, append_assoc, length-append}
-use Rattle.std.proofs.lemmas.Bool.{le-leb, ne_eqb}
-use Rattle.std.proofs.lemmas.List.{append-nil, drop_all}
 use Rattle.httparse.specs.Grammar.{AllPass, crlf, Field, is_token_byte, is_uri_byte, is_value_byte, IsField, IsRequestHead, LineEnd, print_blank, print_end, print_field, print_request, print_section, print_version, RequestHead}
-use Rattle.messages.specs.Lines.{EndsByBoth}
-use Rattle.messages.specs.Names.{All-head, All-tail, Bad, Before, EmptyReturn, false≢true, fault_on, fault_then, Feed, FirstReturn, HeaderError, IsLawful, line_fault, lines, Method, More, Return, scanned_headers, ScanStep, Sized, Space, Start, StartReturn, Target, Text, texts, turn, turn_fault, Version}
-use Rattle.messages.specs.declared.bad_head.BadHead.{BadHead}
+use Rattle.messages.specs.Names.{All-head, All-tail, append-nil, Bad, Before, drop_all, EmptyReturn, EndsByBoth, false≢true, fault_on, fault_then, Feed, FirstReturn, HeaderError, IsLawful, le-leb, leads_on, leads_then, line_fault, lines, Method, More, ne_eqb, Return, scanned_headers, ScanStep, Sized, Space, Start, StartReturn, Target, Text, texts, turn, turn_fault, Version}
 use Rattle.codec.specs.declared.HeaderError.TheVariants.{NoHeader, TooLong, NoTail, Truncated}
 use Rattle.codec.specs.declared.Header.{Header}
 use Rattle.codec.specs.declared.Header.TheVariants as header
 use Rattle.codec.specs.HeaderFormatLaws.{length_prefixed_lawful}
 use Rattle.codec.specs.Scanning.{IsSmall, LeadsTo, says, scan_on, scanned}
-use Rattle.codec.specs.ScanningLaws.{leads_on, leads_then}
 
 pub lines_small : IsSmall lines
 lines_small = record { some = omega arith; small = omega arith }
@@ -22,24 +17,19 @@ pub texts_lawful : IsLawful texts
 texts_lawful = length_prefixed_lawful (scanned lines) (scanned_headers lines lines_small)
 
 -- more bytes change nothing where so many settled what is said
-then_stays : (t : ScanStep Before) (name : BadHead) (left used : ℕ) (bytes more : List ℕ)
-    → ((next : Before) → ¬ (scan_on turn left next used bytes ≡ header.Short)
-    → fault_on next (take left (bytes ++ more)) ≡ fault_on next (take left bytes))
-    → ¬ (says t used (λ next. scan_on turn left next used bytes) ≡ header.Short)
-    → fault_then t name (λ next. fault_on next (take left (bytes ++ more)))
-    ≡ fault_then t name (λ next. fault_on next (take left bytes))
-then_stays (More next) name left used bytes more later said = later next said
-then_stays (Sized len) name left used bytes more later said = refl
-then_stays Bad name left used bytes more later said = refl
-
 fault_stays : (left : ℕ) (place : Before) (used : ℕ) (bytes more : List ℕ)
     → ¬ (scan_on turn left place used bytes ≡ header.Short)
     → fault_on place (take left (bytes ++ more)) ≡ fault_on place (take left bytes)
 fault_stays zero place used bytes more said = refl
 fault_stays (suc left) place used [] more said = absurd (said refl)
 fault_stays (suc left) place used (byte ∷ bytes) more said =
-    then_stays (turn place byte) (turn_fault place byte) left (used + 1) bytes more
-    (λ next said'. fault_stays left next (used + 1) bytes more said') said
+    elim (turn place byte) as (λ t. ¬ (says t (used + 1) (λ next. scan_on turn left next (used + 1) bytes) ≡ header.Short)
+    → fault_then t (turn_fault place byte) (λ next. fault_on next (take left (bytes ++ more)))
+    ≡ fault_then t (turn_fault place byte) (λ next. fault_on next (take left bytes))) [
+      | More next ↦ fault_stays left next (used + 1) bytes more
+      | Sized len ↦ λ said. refl
+      | Bad ↦ λ said. refl
+    ] said
 
 not_short : (bytes : List ℕ) (why : HeaderError) → texts.wrong bytes why
     → ¬ (scan_on turn 16384 Start 0 bytes ≡ header.Short)

@@ -2,8 +2,8 @@
 use Rattle.std.specs.Prelude.{◌≡◌, ℕ, ◌≤◌, List, [], ◌∷◌, ◌++◌, length, Option, Some, Ok}
 use Rattle.std.proofs.Common.{sym, ap, subst, ◌∙◌, arith, refl, append_assoc, append-nil, inl, inr, length-append}
 use Rattle.messages.specs.Names.{append_cancel_left, AreMessages, as_known, Begun, Block, body_rules, BodyCoding, BodyWent, chunked, chunked_lawful, coding_of, EachReadGave, Enters, extent_of, FinishesBody, handed_of, heads, InBody, InsideGoes, InTurn, IsBody, IsBodyReader, IsHead, IsHeadPiece, IsMessage, known_of, left_of, Limits, Message, MessagesWent, method_kind, NextPiece, Reader, ReaderState, ReadsAlong-stream, request_framing, request_unique, room_of, sized_lawful, std_read_rules, StreamWent, StreamWent-joins, TookWholeBody, Unbuffered, unbuffered}
-use Rattle.body_reader.specs.BodyReaderLaws.{BodyWent-joins, BodyWent-none}
 use Rattle.body_reader.specs.Coding.{IsLawful}
+use Rattle.body_reader.specs.BodyReaderLaws.{BodyWent-joins, BodyWent-none}
 use Rattle.body_reader.specs.EitherLaws.{either_lawful}
 use Rattle.body_reader.specs.Sized.{sized}
 use Rattle.body_reader.specs.declared.either.Either.TheVariants as coding

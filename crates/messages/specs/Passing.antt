@@ -1,12 +1,9 @@
 -- Why no further message is passed.
 use Rattle.std.specs.Prelude.{List, ℕ, Option}
-use Rattle.codec.specs.NextPiece.{NextPiece}
-use Rattle.codec.specs.PieceReader.{ReaderState}
+use Rattle.messages.specs.Names.{Begun, FailsToFinish, heads, InBody, NextPiece, ReaderState, stop_answer}
 use Rattle.messages.specs.declared.head.Heads.{Heads}
 use Rattle.messages.specs.declared.laws.Stopped.{Stopped}
 use Rattle.messages.specs.declared.laws.Stopped.TheVariants.{Before, Inside}
-use Rattle.messages.specs.Heads.{heads}
-use Rattle.messages.specs.Messages.{Begun, FailsToFinish, InBody, stop_answer}
 
 -- the reader stands before the head of the next, of which nothing is gone, or in its body, which wasn't finished
 abbrev pub StopsIn : {S : Type 0} → (S → Option (List ℕ)) → ReaderState S Heads → Stopped S → Type 0

@@ -3,9 +3,7 @@ use Rattle.std.proofs.Common.{◌≡◌, ◌∙◌, ◌&&◌, ◌+◌, ◌∷◌
 use Rattle.std.specs.List.{list_all}
 use Rattle.std.proofs.Math.Bool.{and-true}
 use Rattle.http1.proofs.FieldsLemmas.{elements_at, elements_whole}
-use Rattle.http1.specs.Fields.{elements}
-use Rattle.httparse.specs.Grammar.{trim_ows}
-use Rattle.messages.specs.Names.{is_expected}
+use Rattle.messages.specs.Names.{elements, is_expected, trim_ows}
 use Rattle.messages.proofs.Rest.{take-drop}
 use Rattle.messages.proofs.expect.are_expected.Goals as goal
 

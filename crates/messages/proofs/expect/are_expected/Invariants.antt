@@ -1,7 +1,6 @@
 use Rattle.std.proofs.Common.{◌≡◌, length}
 use Rattle.std.specs.List.{list_all}
-use Rattle.http1.specs.Fields.{elements}
-use Rattle.messages.specs.Names.{is_expected}
+use Rattle.messages.specs.Names.{elements, is_expected}
 use Rattle.messages.proofs.expect.are_expected.Given as goal
 
 -- those before are so

@@ -1,17 +1,12 @@
 -- What the reader did, told of one in a body; why none comes is named where it stands then.
 use Rattle.messages.specs.Names.{body_rules, FillsPayload, std_read_rules}
-use Rattle.messages.proofs.Inside.{body_goes, body_room, tells_why}
+use Rattle.messages.proofs.Inside.{body_goes, tells_why}
 use Rattle.messages.proofs.body.Body.fill_payload.Goals as goal
-
-pub invariant_of-self : goal.invariant_of-self
-invariant_of-self g c =
-    (c.self.invariant.0, c.self.invariant.1, body_room c.fill_payload-answer.ensures.fills.went c.self.invariant.2)
 
 pub returns-clause-goes : goal.returns-clause-goes
 returns-clause-goes g c =
-    let i = c.self.inside in
     let fills = c.fill_payload-answer.ensures.fills in
-    rw (← c.self.view_is) (body_goes fills.went c.self.invariant.2 fills.whole i.limits i.head.bytes i.said)
+    rw (← c.self.view_is) (body_goes fills.went c.self.invariant.2 fills.whole)
 
 pub returns-clause-fills : goal.returns-clause-fills
 returns-clause-fills g c =

@@ -57,11 +57,10 @@ returns-in-Ok-with_buffer-clause-moved g c =
 
 pub returns-in-Err-clause-ends : goal.returns-in-Err-clause-ends
 returns-in-Err-clause-ends g c =
-    let i = c.self.inside in
     let drains = c.in-Err.ensures.drains in
     rw (c.unread-why.ensures, c.place.ensures, ← c.self.view_is) (record {
       why = c.in-Err.e;
       told = refl;
       drains = drains;
-      goes = body_goes drains.takes.went c.self.invariant.2 drains.takes.whole i.limits i.head.bytes i.said;
+      goes = body_goes drains.takes.went c.self.invariant.2 drains.takes.whole;
     })

@@ -1,19 +1,14 @@
 -- What the reader did, told of one in a body; why none comes is named where it stands then.
 use Rattle.messages.specs.Names.{body_rules, ReadsPayload, std_read_rules}
 use Rattle.messages.proofs.Asking.{body_asks}
-use Rattle.messages.proofs.Inside.{body_goes, body_room, ok_named, read_went, rest_named, tells_why}
+use Rattle.messages.proofs.Inside.{body_goes, ok_named, read_went, rest_named, tells_why}
 use Rattle.messages.proofs.body.Body.read.Goals as goal
-
-pub invariant_of-self : goal.invariant_of-self
-invariant_of-self g c =
-    (c.self.invariant.0, c.self.invariant.1, body_room c.read_payload-answer.ensures.reads.went c.self.invariant.2)
 
 pub returns-clause-goes : goal.returns-clause-goes
 returns-clause-goes g c =
-    let i = c.self.inside in
     let reads = c.read_payload-answer.ensures.reads in
     rw (c.answer_of.ensures, ← c.self.view_is)
-    (body_goes (read_went _ _ reads) c.self.invariant.2 reads.whole i.limits i.head.bytes i.said)
+    (body_goes (read_went _ _ reads) c.self.invariant.2 reads.whole)
 
 pub returns-clause-bound : goal.returns-clause-bound
 returns-clause-bound g c =

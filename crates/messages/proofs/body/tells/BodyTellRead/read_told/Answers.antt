@@ -13,13 +13,11 @@ invariant_of-self g c =
 
 pub returns-clause-goes : goal.returns-clause-goes
 returns-clause-goes g c =
-    let i = c.self.inside in
     let read = c.read_told.ensures.read in
-    let went = told_went g.R.TellRead.remaining i.reader c.read_told.new.self c.read_told.new.out read.0 c.read_told.result
-    read.1 c.read_told.ensures.told in
+    let went = told_went g.R.TellRead.remaining c.self.inside.reader c.read_told.new.self c.read_told.new.out read.0
+    c.read_told.result read.1 c.read_told.ensures.told in
     rw (← c.self.view_is) (body_goes went c.self.invariant.2
-    (subst (λ x. IsBodyReader (body_rules x) c.read_told.new.self) went.coding c.read_told.ensures.whole) i.limits i.head.bytes
-    i.said)
+    (subst (λ x. IsBodyReader (body_rules x) c.read_told.new.self) went.coding c.read_told.ensures.whole))
 
 pub returns-clause-read : goal.returns-clause-read
 returns-clause-read g c = rw (← c.self.view_is) c.read_told.ensures.read
