@@ -1,5 +1,5 @@
 -- Where a read of a body asks its stream.
-use Rattle.std.proofs.Common.{◌≡◌, ℕ, ◌+◌, ◌<◌, ◌∙◌, List, [], ◌∷◌, ◌++◌, length, take, inl, inr, Option, Result, Ok, Err, ap, subst, arith, append-nil, length-append}
+use Rattle.std.proofs.Common.{◌≡◌, ℕ, ◌+◌, ◌<◌, ◌∙◌, List, [], ◌∷◌, ◌++◌, length, inl, inr, Option, Result, Ok, Err, ap, subst, sym, arith, append-nil, length-append}
 use Rattle.messages.specs.Names.{body_rules, BodyWent, cases_lt, handed_of, IsBody, IsBodyReader, length-take-le, nil_from_length, none_wrong, NoPayload, Reader, ReadsAlong-stream, ReadsPayload, std_read_rules, StreamWent-unasked, TookWholeBody, unbuffered, WhyNone}
 use Rattle.body_reader.specs.declared.error.BodyError.TheVariants as unread
 use Rattle.messages.specs.MessagesLaws.{body_lawful}
@@ -10,13 +10,10 @@ module _ {R : Type 0} {remaining : R → Option (List ℕ)} {s t : Reader R} (is
     {handed : List ℕ} (went : BodyWent remaining std_read_rules (body_rules s.coding) s handed t)
     (same : t.reader.log ≡ s.reader.log) (none : s.reader.block.bytes ≡ []) where
   empty : length went.wire + length t.reader.block.bytes ≡ 0
-  empty = omega (
-    arith,
-    ap length (StreamWent-unasked remaining (unbuffered s.reader) (unbuffered t.reader) went.wire
-        (ReadsAlong-stream remaining std_read_rules s.reader went.wire t.reader went.along) same),
-    length-append went.wire t.reader.block.bytes,
-    ap length none,
-  )
+  empty =
+      let stream = ReadsAlong-stream remaining std_read_rules s.reader went.wire t.reader went.along in
+      let left = StreamWent-unasked remaining (unbuffered s.reader) (unbuffered t.reader) went.wire stream same in
+      omega (arith, ap length none, ap length left, length-append {A = ℕ})
 
   none_taken : t.taken ≡ s.taken
   none_taken = went.taken ∙ ap (λ l. s.taken ++ l) (nil_from_length went.wire (omega (arith, empty))) ∙ append-nil s.taken
@@ -34,12 +31,9 @@ module _ {R : Type 0} {remaining : R → Option (List ℕ)} {s t : Reader R} (is
       (subst (λ l. (body_rules s.coding).wrong t.place l why) (nil_from_length t.reader.block.bytes (omega (arith, empty)))
       fails.2.name)
   never_fails (unread.Truncated right) fails = omega (arith, fails.1.1, ap (λ l. l.reads.zero_reads) same)
-  never_fails (unread.Io e) fails = omega (
-    arith,
-    ap length fails.0.0,
-    length-append s.reader.log.reads.faults (e ∷ []),
-    ap (λ l. length l.reads.faults) same,
-  )
+  never_fails (unread.Io e) fails =
+      let grew = ap length fails.0.0 ∙ length-append s.reader.log.reads.faults (e ∷ []) in
+      omega (arith, grew, ap (λ l. length l.reads.faults) same)
 
 -- so a read of a body that goes on asks the stream then
 module _ {R : Type 0} {remaining : R → Option (List ℕ)} {s t : Reader R} (is : IsBodyReader (body_rules s.coding) s)
@@ -52,15 +46,8 @@ module _ {R : Type 0} {remaining : R → Option (List ℕ)} {s t : Reader R} (is
       let none_read : n ≡ 0 = elim (cases_lt 0 n) [
         | inl more ↦
             (let k = reads.knows (omega (arith, is.known.0, ap length none)) more in
-            absurd (omega (
-              arith,
-              more,
-              few,
-              ap length k.equal,
-              ap length (none_taken reads.whole reads.went same none),
-              length-append s.taken (k.wire ++ take n out),
-              length-append k.wire (take n out),
-            )))
+            let taken = ap length (sym (none_taken reads.whole reads.went same none) ∙ k.equal) in
+            absurd (omega (arith, more, few, taken, length-append {A = ℕ})))
         | inr zero ↦ omega (arith, zero)
       ] in
       goes_on (was_over reads.whole reads.went same none (omega (arith, few, none_read)) (reads.answers.2 none_read some))

@@ -1,5 +1,5 @@
 -- What the reader of a body does, told of a reader in one.
-use Rattle.std.proofs.Common.{◌≡◌, ◌↔◌, ◌≤◌, ◌∙◌, ℕ, List, [], ◌++◌, length, take, drop, Option, Result, Ok, Err, IfOk, ap, arith, length-append, refl, subst, sym, take-append-drop}
+use Rattle.std.proofs.Common.{◌≡◌, ◌↔◌, ◌≤◌, ◌∙◌, ℕ, List, [], ◌++◌, length, take, drop, Option, Result, Ok, Err, IfOk, ap, arith, rules, length-append, refl, subst, sym, take-append-drop}
 use Rattle.std.specs.declared.io.Error.{Error}
 use Rattle.messages.specs.Names.{after_read, Agree-nothing, append_cancel_left, body_answer, body_rules, BodyCoding, BodyWent, handed_of, handed_out, heeded, InsideGoes, IsBodyReader, IsDone, IsRoomy, Leads-done, Leads-whole, LeavesPlaces, LeavesRest, LeavesRoom, Limits, ParsedHead, Place, Reader, ReadsAlong-stream, ReadsAsIo, ReadsPayload, room_of, Side, std_read_rules, StreamLog, StreamWent-unasked, TellsWhy, TookWholeBody, unbuffered, WhyNone}
 use Rattle.body_reader.specs.BodyReaderLaws.{BodyWent-leads}
@@ -66,11 +66,8 @@ sized_took {remaining = remaining} {s = s} {t = t} {handed = handed} is is' went
     let follow = heeded g t.reader.block.bytes in
     let done = Leads-done g (body_lawful s.coding) t.taken (handed_of t) t.place follow is'.leads is'.place whole in
     let leads = BodyWent-leads remaining std_read_rules g s t handed is is' went in
-    omega (
-      arith,
-      all_due s.coding s.place n (went.wire ++ []) (handed ++ []) same (leads.onward [] [] (Agree-nothing follow) done),
-      length-append went.wire [],
-    )
+    let due = all_due s.coding s.place n (went.wire ++ []) (handed ++ []) same (leads.onward [] [] (Agree-nothing follow) done) in
+    grind (arith, length-append)
 
 -- calls of the reader
 module _ {R : Type 0} {remaining : R → Option (List ℕ)} {s t : Reader R} {handed : List ℕ}
@@ -88,12 +85,7 @@ module _ {R : Type 0} {remaining : R → Option (List ℕ)} {s t : Reader R} {ha
 
   module _ (room : IsRoomy s.reader.block) where
     pub body_room : IsRoomy t.reader.block
-    body_room =
-        let kept = went.keeps.room std_leaves in record {
-          kind = went.keeps.kind ∙ room.kind;
-          capacity = omega (arith, room.capacity, went.along.capacity);
-          limit = kept.1 ∙ room.limit ∙ sym kept.0;
-        }
+    body_room = let kept = went.keeps.room std_leaves in search rules
 
     pub body_kept : room_of t.reader.block ≡ room_of s.reader.block
     body_kept = let kept = went.keeps.room std_leaves in same_room t.reader.block s.reader.block kept.0 kept.1
@@ -107,15 +99,9 @@ module _ {R : Type 0} {remaining : R → Option (List ℕ)} {s t : Reader R} {ha
     pub body_goes : {limits : Limits} {head : List ℕ} {said : ParsedHead} → IsBodyReader (body_rules s.coding) t
         → InsideGoes remaining (record { body = s; limits = limits; head = head; said = said }) handed
         (record { body = t; limits = limits; head = head; said = said })
-    body_goes whole = record {
-      went = went;
-      whole = subst (λ c. IsBodyReader (body_rules c) t) (sym went.coding) whole;
-      room = body_kept;
-      moved = body_still;
-      limits = refl;
-      head = refl;
-      said = refl;
-    }
+    body_goes whole =
+        let is = subst (λ c. IsBodyReader (body_rules c) t) (sym went.coding) whole in
+        search (rules, body_kept, body_still)
 
 -- what a read did
 module _ {R : Type 0} {remaining : R → Option (List ℕ)} {s t : Reader R} {out : List ℕ} where
@@ -143,11 +129,6 @@ module _ {R : Type 0} (remaining : R → Option (List ℕ)) (s t : Reader R) (ou
       → t.calls ≡ after_read s.calls out answer
       → BodyWent remaining std_read_rules (body_rules s.coding) s (handed_out out answer) t
   told_went answer reads told =
-      let went = io_went answer reads in record {
-        wire = went.wire;
-        along = went.along;
-        taken = went.taken;
-        handed = ap (λ l. l.reads.given) told ∙ given_of s.calls out answer;
-        coding = went.coding;
-        keeps = went.keeps;
-      }
+      let went = io_went answer reads in
+      let handed = ap (λ l. l.reads.given) told ∙ given_of s.calls out answer in
+      search rules

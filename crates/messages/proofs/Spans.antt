@@ -1,6 +1,6 @@
 -- Where fields stand.
-use Rattle.std.proofs.Common.{◌≡◌, ◌<◌, ◌≤◌, ℕ, List, [], ◌∷◌, length, get_or, map, take, take_all, drop, All, ap, subst, arith}
-use Rattle.messages.specs.Names.{All-cons, All-get_or, All-head, All-map, All-nil, All-tail, header_bytes, IsRequestAt, length-drop, length-map, length-take-le, name_and_value, nil_from_length, ReadsRequest, RequestHead}
+use Rattle.std.proofs.Common.{◌≡◌, ◌<◌, ◌≤◌, ℕ, List, [], ◌∷◌, length, get_or, map, take, take_all, drop, All, IsTrue, true, false, ◌↔◌, refl, subst, arith}
+use Rattle.messages.specs.Names.{All-cons, All-get_or, All-head, All-map, All-nil, All-tail, false≢true, header_bytes, IsRequestAt, length-drop, length-map, length-take-le, nil_from_length, ReadsRequest, RequestHead}
 use Rattle.httparse.specs.declared.spans.HeaderSpan.{HeaderSpan}
 use Rattle.httparse.specs.declared.spans.RequestSpans.{RequestSpans}
 
@@ -12,27 +12,25 @@ all_of_map P f (x ∷ xs) h =
 abbrev pub no_span : HeaderSpan
 no_span = record { name = record { start = 0; end = 0 }; value = record { start = 0; end = 0 } }
 
--- what is so of each field, looked for span by span
+-- whether something is so of each field, looked for span by span
 module _ (P : List ℕ × List ℕ → Type 0) (head : List ℕ) (spans : List HeaderSpan) (i : ℕ) where
-  pub all_fields : length spans ≤ i → All (λ s. P (header_bytes head s)) (take i spans) → All P (map (header_bytes head) spans)
-  all_fields past so_far =
-      All-map P (header_bytes head) spans (subst (All (λ s. P (header_bytes head s))) (take_all i spans past) so_far)
+  pub all_fields : length spans ≤ i → All (λ s. P (header_bytes head s)) (take i spans)
+      → IsTrue true ↔ All P (map (header_bytes head) spans)
+  all_fields past so_far = (λ _. All-map P (header_bytes head) spans (rw (take_all i spans past) at so_far), λ _. refl)
 
-  pub not_all : i < length spans → ¬ (P (header_bytes head (get_or spans i no_span))) → ¬ (All P (map (header_bytes head) spans))
-  not_all within odd all =
-      odd (All-get_or (λ s. P (header_bytes head s)) spans i no_span within (all_of_map P (header_bytes head) spans all))
+  pub not_all : i < length spans → ¬ (P (header_bytes head (get_or spans i no_span)))
+      → IsTrue false ↔ All P (map (header_bytes head) spans)
+  not_all within odd = (
+    λ wrong. absurd (false≢true wrong),
+    λ all. absurd (odd
+        (All-get_or (λ s. P (header_bytes head s)) spans i no_span within (all_of_map P (header_bytes head) spans all))),
+  )
 
 -- a text has as many fields as were found, and is just the head where that is as long
 module _ {bytes : List ℕ} {headers : List HeaderSpan} {r : RequestSpans} {h : RequestHead}
     (at : IsRequestAt bytes headers r h) where
   pub fields_counted : r.headers ≤ length headers → length h.fields ≡ r.headers
-  fields_counted fits = omega (
-    arith,
-    ap length at.fields,
-    length-map (take r.headers headers) (header_bytes bytes),
-    length-map h.fields name_and_value,
-    length-take-le r.headers headers fits,
-  )
+  fields_counted fits = grind (arith, at.fields, length-map, length-take-le r.headers headers fits)
 
   pub reads_whole : length bytes ≤ r.len → ReadsRequest bytes h []
   reads_whole all = subst (ReadsRequest bytes h)

@@ -1,6 +1,6 @@
 -- Laws of messages.
-use Rattle.std.specs.Prelude.{◌≡◌, ℕ, ◌≤◌, List, [], ◌∷◌, ◌++◌, length, Option, Some, Ok}
-use Rattle.std.proofs.Common.{sym, ap, subst, ◌∙◌, arith, refl, append_assoc, append-nil, inl, inr, length-append}
+use Rattle.std.specs.Prelude.{◌≡◌, ℕ, ◌≤◌, List, [], ◌∷◌, ◌++◌, length, Option, Some, Ok, false}
+use Rattle.std.proofs.Common.{sym, ap, subst, ◌∙◌, arith, rules, refl, append_assoc, append-nil, inl, inr, length-append}
 use Rattle.messages.specs.Names.{append_cancel_left, AreMessages, as_known, Begun, Block, body_rules, BodyCoding, BodyWent, chunked, chunked_lawful, coding_of, EachReadGave, Enters, extent_of, FinishesBody, handed_of, heads, InBody, InsideGoes, InTurn, IsBody, IsBodyReader, IsHead, IsHeadPiece, IsMessage, known_of, left_of, Limits, Message, MessagesWent, method_kind, NextPiece, Reader, ReaderState, ReadsAlong-stream, request_framing, request_unique, room_of, sized_lawful, std_read_rules, StreamWent, StreamWent-joins, TookWholeBody, Unbuffered, unbuffered}
 use Rattle.body_reader.specs.Coding.{IsLawful}
 use Rattle.body_reader.specs.BodyReaderLaws.{BodyWent-joins, BodyWent-none}
@@ -74,19 +74,13 @@ InTurn-joins Is (m ∷ ms) ns a b (f, more, one, is, equal) are =
 pub AreMessages-some : (limits : Limits) (ms : List Message) (bytes : List ℕ) → AreMessages limits ms bytes
     → length ms ≤ length bytes
 AreMessages-some limits [] bytes none = omega arith
-AreMessages-some limits (m ∷ ms) bytes (first, more, is, are, equal) = omega (
-  arith,
-  (heads_lawful limits).some m.0 m.0 is.text,
-  ap length is.equal,
-  length-append m.0 is.wire,
-  AreMessages-some limits ms more are,
-  ap length equal,
-  length-append first more,
-)
+AreMessages-some limits (m ∷ ms) bytes (first, more, is, are, equal) =
+    let some = (heads_lawful limits).some m.0 m.0 is.text in
+    let later = AreMessages-some limits ms more are in
+    grind (arith, is.equal, length-append)
 
 pub same_room : (b c : Block) → b.capacity ≡ c.capacity → b.limit ≡ c.limit → room_of b ≡ room_of c
-same_room b c capacity limit =
-    ap (λ n. record { capacity = n; limit = b.limit }) capacity ∙ ap (λ n. record { capacity = c.capacity; limit = n }) limit
+same_room b c capacity limit = cc
 
 -- reads that each gave some, and then more such
 pub EachReadGave-joins : {S : Type 0} (s m t : Unbuffered S) → EachReadGave s m → EachReadGave m t → EachReadGave s t
@@ -101,11 +95,13 @@ module _ {S : Type 0} (remaining : S → Option (List ℕ)) where
       let piece : IsHeadPiece s.decoder.0 next.bytes bytes = elim next.answers.1 [ inl is ↦ is.0 | inr last ↦ absurd last.0 ] in
       (sym piece.same, subst (λ l. IsHeadPiece s.decoder.0 l bytes) (sym piece.same) piece)
 
-  -- under the limits that the reader has still
+  -- under the limits that the reader has still, which knows of no end
   pub lent_still : (s t : ReaderState S head.Heads) (bytes : List ℕ)
-      → NextPiece remaining (heads s.decoder.0) s (Ok (Some bytes)) t → IsHeadPiece t.decoder.0 bytes bytes
-  lent_still s t bytes next =
-      subst (λ d. IsHeadPiece d.0 bytes bytes) (sym next.went.decoder) (lent s t bytes next).1
+      → NextPiece remaining (heads s.decoder.0) s (Ok (Some bytes)) t → IsHeadPiece t.decoder.0 bytes bytes × (t.ended ≡ false)
+  lent_still s t bytes next = (
+    subst (λ d. IsHeadPiece d.0 bytes bytes) (sym next.went.decoder) (lent s t bytes next).1,
+    elim next.answers.1 [ inl is ↦ is.1 | inr last ↦ absurd last.0 ],
+  )
 
   pub Begun-went : (s : ReaderState S head.Heads) (b : InBody S) → Begun remaining s b
       → StreamWent remaining (left_of s) b.head (unbuffered b.body.reader)
@@ -139,28 +135,14 @@ module _ {S : Type 0} (remaining : S → Option (List ℕ)) where
 
   -- calls in a body go on
   pub InsideGoes-none : (b : InBody S) → IsBodyReader (body_rules b.body.coding) b.body → InsideGoes remaining b [] b
-  InsideGoes-none b whole = record {
-    went = BodyWent-none remaining std_read_rules (body_rules b.body.coding) b.body;
-    whole = whole;
-    room = refl;
-    moved = refl;
-    limits = refl;
-    head = refl;
-    said = refl;
-  }
+  InsideGoes-none b whole = search (rules, BodyWent-none remaining std_read_rules (body_rules b.body.coding) b.body)
 
   pub InsideGoes-joins : (s m t : InBody S) (h k : List ℕ) → InsideGoes remaining s h m → InsideGoes remaining m k t
       → InsideGoes remaining s (h ++ k) t
-  InsideGoes-joins s m t h k a b = record {
-    went = BodyWent-joins remaining std_read_rules (body_rules s.body.coding) s.body m.body t.body h k a.went
-        (subst (λ c. BodyWent remaining std_read_rules (body_rules c) m.body k t.body) a.went.coding b.went);
-    whole = b.whole;
-    room = b.room ∙ a.room;
-    moved = b.moved ∙ a.moved;
-    limits = b.limits ∙ a.limits;
-    head = b.head ∙ a.head;
-    said = b.said ∙ a.said;
-  }
+  InsideGoes-joins s m t h k a b =
+      let next = subst (λ c. BodyWent remaining std_read_rules (body_rules c) m.body k t.body) a.went.coding b.went in
+      let went = BodyWent-joins remaining std_read_rules (body_rules s.body.coding) s.body m.body t.body h k a.went next in
+      search rules
 
   -- those since a body began, up to its end, took just that
   pub whole_body : {limits : Limits} {b : InBody S} {handed : List ℕ} {t : Reader S} → Enters limits b

@@ -1,5 +1,5 @@
 -- Each field so far is met, and all are behind the last; one that isn't is among them.
-use Rattle.std.proofs.Common.{IsTrue, sym, refl, ◌∙◌, arith}
+use Rattle.std.proofs.Common.{IsTrue, sym, ◌∙◌, arith}
 use Rattle.messages.specs.Names.{All-more, false≢true, header_bytes, is_met}
 use Rattle.messages.proofs.Spans.{all_fields, no_span, not_all}
 use Rattle.messages.proofs.expect.are_met.Goals as goal
@@ -10,15 +10,9 @@ loop-span-preserved c =
     c.loop-span-test.true c.loop-span.invariant (sym c.is_met.ensures ∙ c.if-not-is_met.false)
 
 pub returns-then-not-is_met : goal.returns-then-not-is_met
-returns-then-not-is_met c = (
-  λ wrong. absurd (let odd = wrong in cc),
-  λ all. absurd (not_all (λ h. IsTrue (is_met h)) c.args.head.now c.args.spans.now c.loop-span.span-index c.loop-span-test.true
-      (λ is. false≢true (sym c.if-not-is_met.true ∙ c.is_met.ensures ∙ is)) all),
-)
+returns-then-not-is_met c = not_all (λ h. IsTrue (is_met h)) c.args.head.now c.args.spans.now c.loop-span.span-index
+    c.loop-span-test.true (λ is. false≢true (sym c.if-not-is_met.true ∙ c.is_met.ensures ∙ is))
 
 pub returns : goal.returns
-returns c = (
-  λ _. all_fields (λ h. IsTrue (is_met h)) c.args.head.now c.args.spans.now c.loop-span.span-index
-      (omega (arith, c.loop-span-test.false)) c.loop-span.invariant,
-  λ _. refl,
-)
+returns c = all_fields (λ h. IsTrue (is_met h)) c.args.head.now c.args.spans.now c.loop-span.span-index
+    (omega (arith, c.loop-span-test.false)) c.loop-span.invariant

@@ -54,10 +54,5 @@ returns-clause-in_order g c =
       went.went.order.got,
       went.went.order.given,
       went.went.order.equal,
-      omega (
-        arith,
-        before.many,
-        c.loop-test.false,
-        AreMessages-some c.args.requests.decoder.0 before.messages went.bytes went.are,
-      ),
+      grind (arith, AreMessages-some c.args.requests.decoder.0 before.messages went.bytes went.are),
     )

@@ -1,5 +1,5 @@
 -- Each field so far is plain, and all are behind the last; one that isn't is among them.
-use Rattle.std.proofs.Common.{sym, refl, ◌∙◌, arith}
+use Rattle.std.proofs.Common.{sym, ◌∙◌, arith}
 use Rattle.messages.specs.Names.{All-more, false≢true, header_bytes, IsPlainField}
 use Rattle.messages.proofs.Spans.{all_fields, no_span, not_all}
 use Rattle.messages.proofs.target.are_hosts_plain.Goals as goal
@@ -10,15 +10,9 @@ loop-span-preserved c =
     c.loop-span-test.true c.loop-span.invariant (c.is_plain.ensures.0 c.if-not-is_plain.false)
 
 pub returns-then-not-is_plain : goal.returns-then-not-is_plain
-returns-then-not-is_plain c = (
-  λ wrong. absurd (let odd = wrong in cc),
-  λ all. absurd (not_all IsPlainField c.args.head.now c.args.spans.now c.loop-span.span-index c.loop-span-test.true
-      (λ is. false≢true (sym c.if-not-is_plain.true ∙ c.is_plain.ensures.1 is)) all),
-)
+returns-then-not-is_plain c = not_all IsPlainField c.args.head.now c.args.spans.now c.loop-span.span-index c.loop-span-test.true
+    (λ is. false≢true (sym c.if-not-is_plain.true ∙ c.is_plain.ensures.1 is))
 
 pub returns : goal.returns
-returns c = (
-  λ _. all_fields IsPlainField c.args.head.now c.args.spans.now c.loop-span.span-index (omega (arith, c.loop-span-test.false))
-      c.loop-span.invariant,
-  λ _. refl,
-)
+returns c = all_fields IsPlainField c.args.head.now c.args.spans.now c.loop-span.span-index
+    (omega (arith, c.loop-span-test.false)) c.loop-span.invariant

@@ -1,6 +1,6 @@
 -- The text begins with a letter, and behind the scheme stands `://`, so what follows decides.
-use Rattle.std.proofs.Common.{◌+◌, ◌↔◌, ◌∙◌, IsTrue, codes, drop, nat_eq, rules, subst, sym, take}
-use Rattle.messages.specs.Names.{begins_with_letter, false≢true, is_web, IsBehindScheme}
+use Rattle.std.proofs.Common.{◌+◌, ◌∙◌, IsTrue, codes, drop, nat_eq, rules, sym}
+use Rattle.messages.specs.Names.{begins_with_letter, false≢true}
 use Rattle.std.specs.List.{starts_with}
 use Rattle.messages.proofs.Rest.{take-drop}
 use Rattle.messages.proofs.target.is_absolute.Goals.{then-begins_with_letter, else-begins_with_letter}
@@ -19,10 +19,5 @@ returns-then-starts_with c =
       | else-begins_with_letter w ↦ absurd (false≢true (sym w.if-begins_with_letter.false ∙ sym w.value-is
           ∙ c.if-starts_with.true))
     ] in
-    let rest = subst (λ t. IsTrue c.is_behind_scheme.result ↔ IsBehindScheme c.is_web.result t) (take-drop (len + 3) text)
-    c.is_behind_scheme.ensures in
-    let web = subst (λ w. IsTrue c.is_behind_scheme.result ↔ IsBehindScheme w (drop (len + 3) text)) c.is_web.ensures rest in
-    subst (λ n. IsTrue c.is_behind_scheme.result
-    ↔ (IsTrue (begins_with_letter text) × IsTrue (starts_with nat_eq (drop n text) (codes "://"))
-    × IsBehindScheme (is_web (take n text)) (drop (n + 3) text))) c.scheme_len-len.ensures.value
-    (λ yes. (begins.0, begins.1, web.0 yes), λ is. web.1 is.2)
+    let rest = rw (take-drop (len + 3) text, c.is_web.ensures) at c.is_behind_scheme.ensures in
+    rw (← c.scheme_len-len.ensures.value) (λ yes. (begins.0, begins.1, rest.0 yes), λ is. rest.1 is.2)

@@ -1,13 +1,12 @@
 -- It is no name, so it is a host just where what stands behind the bracket is bracketed.
-use Rattle.std.proofs.Common.{◌↔◌, IsTrue, inl, inr, subst, sym, ◌∙◌}
-use Rattle.messages.specs.Names.{false≢true, IsBracketed}
+use Rattle.std.proofs.Common.{inl, inr, sym, ◌∙◌}
+use Rattle.messages.specs.Names.{false≢true}
 use Rattle.messages.proofs.Rest.{take-drop}
 use Rattle.messages.proofs.target.is_host_and_port.Goals as goal
 
 pub returns-then-has_at : goal.returns-then-has_at
 returns-then-has_at c =
-    let text = c.args.text.now in
-    let is = subst (λ t. IsTrue c.is_bracketed.result ↔ IsBracketed t) (take-drop 1 text) c.is_bracketed.ensures in (
+    let is = rw (take-drop 1 c.args.text.now) at c.is_bracketed.ensures in (
       λ yes. inr (sym c.has_at.ensures ∙ c.if-has_at.true, is.0 yes),
       λ host. elim host [
         | inl name ↦ absurd (false≢true (sym c.if-is_name.false ∙ c.is_name.ensures ∙ name))

@@ -37,6 +37,3 @@ pub returns-in-More-clause-finds : goal.returns-in-More-clause-finds
 returns-in-More-clause-finds c =
     let wants = c.in-More.ensures.finds in
     (wants.0, wants.1, lacks_head c.args.self.now.0 c.in-More.need c.args.bytes.now wants.2)
-
-pub returns-in-Wrong-clause-finds : goal.returns-in-Wrong-clause-finds
-returns-in-Wrong-clause-finds c = inl (c.in-Wrong.field-0, c.in-Wrong.ensures.finds, c.line_fault.ensures)

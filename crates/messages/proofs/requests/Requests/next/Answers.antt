@@ -1,30 +1,21 @@
 -- The head that the step lent is still buffered, so the body begins behind it.
-use Rattle.std.proofs.Common.{◌≡◌, false, inl, inr}
 use Rattle.messages.specs.MessagesLaws.{Begun-went, lent_still}
 use Rattle.messages.proofs.requests.Requests.next.Goals as goal
 
-pub enter-requires : goal.enter-requires
-enter-requires g c =
+pub enter-requires-clause-head : goal.enter-requires-clause-head
+enter-requires-clause-head g c =
     let next = rw c.in-Ok-Some.field-0-is at c.in-Ok-Some.ensures.next in
-    record {
-      lends = rw c.in-Ok-Some.field-0-is at c.in-Ok-Some.ensures.lends;
-      head = lent_still g.R.TellRead.remaining c.self.inside.pieces c.step.new.self _ next;
-    }
+    (lent_still g.R.TellRead.remaining c.self.inside.pieces c.step.new.self _ next).0
 
-pub returns-in-Ok-Some-clause-in_order : goal.returns-in-Ok-Some-clause-in_order
-returns-in-Ok-Some-clause-in_order g c =
-    let next = rw c.in-Ok-Some.field-0-is at c.in-Ok-Some.ensures.next in
+pub returns-in-Ok-Some : goal.returns-in-Ok-Some
+returns-in-Ok-Some g c =
     let s = c.self.inside.pieces in
-    let order = (Begun-went g.R.TellRead.remaining s c.enter.result (c.enter.ensures.begun s next)).order in
-    rw (← c.self.view_is) (order.got, order.given, order.equal)
-
-pub returns-in-Ok-Some-clause-next : goal.returns-in-Ok-Some-clause-next
-returns-in-Ok-Some-clause-next g c =
-    let next = rw c.in-Ok-Some.field-0-is at c.in-Ok-Some.ensures.next in
-    rw (← c.self.view_is) (c.enter.ensures.begun c.self.inside.pieces next)
+    let begun = c.enter.ensures.begun s (rw c.in-Ok-Some.field-0-is at c.in-Ok-Some.ensures.next) in
+    let order = (Begun-went g.R.TellRead.remaining s c.enter.result begun).order in
+    rw (← c.self.view_is)
+    (record { in_order = (order.got, order.given, order.equal); told = c.self.invariant.1; next = begun })
 
 pub invariant_of-self : goal.invariant_of-self
 invariant_of-self g c =
     let next = rw c.in-Ok-Some.field-0-is at c.in-Ok-Some.ensures.next in
-    let told : c.step.new.self.ended ≡ false = elim next.answers.1 [ inl is ↦ is.1 | inr last ↦ absurd last.0 ] in
-    (c.self.invariant.0, told)
+    (c.self.invariant.0, (lent_still g.R.TellRead.remaining c.self.inside.pieces c.step.new.self _ next).1)

@@ -1,20 +1,17 @@
 -- The head that the step lent is still buffered, so the body begins behind it; without one none begins there.
-use Rattle.std.proofs.Common.{◌≡◌, ap, false, inl, inr, rules, subst, sym}
-use Rattle.messages.specs.Names.{Begins, heads, left_of, rest, StreamWent-unasked, unbuffered}
+use Rattle.std.proofs.Common.{◌≡◌, ap, rules}
+use Rattle.messages.specs.Names.{left_of, rest, StreamWent-unasked, unbuffered}
 use Rattle.messages.specs.MessagesLaws.{Begun-went, lent_still}
 use Rattle.messages.proofs.requests.Requests.next_buffered.Goals as goal
 
 pub invariant_of-self : goal.invariant_of-self
 invariant_of-self g c =
-    let told : c.step_buffered.new.self.ended ≡ false =
-    elim c.in-Some.ensures.next.0.answers.1 [ inl is ↦ is.1 | inr last ↦ absurd last.0 ] in
-    (c.self.invariant.0, told)
+    let next = c.in-Some.ensures.next.0 in
+    (c.self.invariant.0, (lent_still g.R.TellRead.remaining c.self.inside.pieces c.step_buffered.new.self _ next).1)
 
-pub enter-requires : goal.enter-requires
-enter-requires g c = record {
-  lends = c.in-Some.ensures.lends;
-  head = lent_still g.R.TellRead.remaining c.self.inside.pieces c.step_buffered.new.self _ c.in-Some.ensures.next.0;
-}
+pub enter-requires-clause-head : goal.enter-requires-clause-head
+enter-requires-clause-head g c =
+    (lent_still g.R.TellRead.remaining c.self.inside.pieces c.step_buffered.new.self _ c.in-Some.ensures.next.0).0
 
 pub returns-in-Some-clause-front : goal.returns-in-Some-clause-front
 returns-in-Some-clause-front g c =
@@ -29,5 +26,5 @@ returns-in-Some-clause-begun g c = rw (← c.self.view_is) (c.enter.ensures.begu
 
 pub returns-in-None-clause-none : goal.returns-in-None-clause-none
 returns-in-None-clause-none g c = λ begins.
-    c.in-None.ensures.next.1 (subst (Begins (heads c.self.inside.pieces.decoder.0)) (ap rest c.in-None.ensures.next.0.same)
-    (subst (λ x. Begins (heads x.decoder.0) (rest c.step_buffered.new.self)) (sym c.self.view_is) begins))
+    let here = rw (← c.self.view_is) at begins in
+    c.in-None.ensures.next.1 (rw (← ap rest c.in-None.ensures.next.0.same) here)
