@@ -1,5 +1,5 @@
 -- What was taken where none could be handed out of what was buffered came from the stream.
-use Rattle.std.proofs.Common.{◌≡◌, ℕ, ◌<◌, inl, inr, List, [], ◌∷◌, ◌++◌, length, min, take, Option, Result, Ok, ap, subst, ◌∙◌, arith, append_assoc, length-append, length-drop, length-take-le}
+use Rattle.std.proofs.Common.{◌≡◌, ℕ, ◌<◌, inl, inr, List, [], ◌∷◌, ◌++◌, length, min, rules, Option, Result, Ok, ap, subst, ◌∙◌, arith, append_assoc, length-append, length-drop, length-take-le, sym}
 use Rattle.bodies.specs.Words.{IsBodyReader, ReadsPayload, chunked, std_read_rules, cases_lt, IsBody, BodyError, chunked_lawful, follows, Malformed}
 use Rattle.bodies.specs.Decoding.{ChunkedState, NoneBuffered}
 
@@ -17,31 +17,14 @@ module _ {R : Type 0} (remaining : R → Option (List ℕ)) (s m : ChunkedState 
   taken_some n p some = elim (cases_lt 0 s.known) [
     | inl known ↦
         let gone = p.consumed known some in
-        let order = p.went.along.in_order in
-        omega (
-          arith,
-          some,
-          known,
-          is.known.0,
-          ap (λ b. length b.bytes) gone.told_policy.allowed.1,
-          ap length gone.dropped.bytes,
-          length-drop (min n (length s.reader.block.bytes)) s.reader.block.bytes,
-          ap length order.equal,
-          length-append p.went.wire m.reader.block.bytes,
-          length-append s.reader.block.bytes order.got,
-        )
+        let bytes = ap (λ b. b.bytes) gone.told_policy.allowed.1 in
+        let left = length-drop (min n (length s.reader.block.bytes)) s.reader.block.bytes in
+        let few = is.known.0 in
+        search rules
     | inr none ↦
         let knows = p.knows (omega (arith, none)) some in
-        omega (
-          arith,
-          some,
-          length-take-le n out p.answers.0,
-          ap length knows.equal,
-          ap length p.went.taken,
-          length-append s.taken p.went.wire,
-          length-append s.taken (knows.wire ++ take n out),
-          length-append knows.wire (take n out),
-        )
+        let taken = ap length (sym p.went.taken ∙ knows.equal) in
+        omega (arith, some, taken, length-take-le n out p.answers.0, length-append {A = ℕ})
   ]
 
   module _ (answer : Result ℕ (BodyError Malformed))
@@ -54,25 +37,8 @@ module _ {R : Type 0} (remaining : R → Option (List ℕ)) (s m : ChunkedState 
 
     -- bytes that were taken, where none could be handed out of what was buffered, came from the stream
     pub some_given : NoneBuffered s → length s.reader.log.reads.given < length m.reader.log.reads.given
-    some_given (inl whole) = absurd (omega (
-      arith,
-      some,
-      ap (λ d. length d.taken) (p.idle (inl whole)),
-      ap length p.went.taken,
-      length-append s.taken p.went.wire,
-    ))
-    some_given (inr (inl none)) =
-        let order = p.went.along.in_order in
-        omega (
-          arith,
-          some,
-          ap length none,
-          ap length order.equal,
-          ap length order.given,
-          length-append s.reader.log.reads.given order.got,
-          length-append p.went.wire m.reader.block.bytes,
-          length-append s.reader.block.bytes order.got,
-        )
+    some_given (inl whole) = absurd (grind (arith, some, p.idle (inl whole), p.went.taken, length-append))
+    some_given (inr (inl none)) = grind (arith, some, none, p.went.along.in_order, length-append)
     some_given (inr (inr (why, breaks))) =
         let order = p.went.along.in_order in
         let (more, first) = begins p.went.wire m.reader.block.bytes (breaks.later ++ order.got) breaks.byte

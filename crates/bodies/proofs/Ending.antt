@@ -1,11 +1,11 @@
 -- What bytes that are put in whole, and the end of a body, do to the writer.
-use Rattle.std.proofs.Common.{◌⊎◌, ◌≡◌, ℕ, ◌<◌, ◌≤◌, inl, inr, List, [], length, Result, Ok, Err, refl, subst, sym, ap, ◌∙◌, arith, length-append}
+use Rattle.std.proofs.Common.{◌⊎◌, ◌≡◌, ℕ, ◌<◌, ◌≤◌, inl, inr, List, [], length, Result, Ok, Err, refl, subst, sym, arith, rules, length-append}
 use Rattle.std.specs.IoError.{error_kind}
 use Rattle.std.specs.declared.io.ErrorKind.TheVariants.{InvalidInput}
 use Rattle.buffer_redux.specs.WritePartsLaws.{PutsIn-told}
 use Rattle.buffer_redux.specs.WritesAlongLaws.{Flushes-once}
 use Rattle.programs.specs.declared.error.RunError.TheVariants.{Write}
-use Rattle.bodies.specs.Words.{cases_lt, nil_from_length, Sends, WritesInOrder-then, Finishes, LacksPayload, NotFinished, WritesOn-joins, SendRow, TakesAll-row, WasFlushed-sent, WasFlushed-writes, WritesOn-unflushed, unsent_row, body_end, Buffered, ChunkedWriterState, Error, failure_count, MetInterrupts-joins, PutsIn, room, RunError, InputFault, SendErrorCaused-after, SendsFirst, StdPolicy, StreamLog, TakesAll, taken_more, WasFlushed, WritesInOrder}
+use Rattle.bodies.specs.Words.{nil_from_length, Sends, WritesInOrder-then, Finishes, LacksPayload, NotFinished, WritesOn-joins, SendRow, TakesAll-row, WasFlushed-sent, WasFlushed-writes, WritesOn-unflushed, unsent_row, body_end, Buffered, ChunkedWriterState, Error, failure_count, MetInterrupts-joins, PutsIn, room, RunError, InputFault, SendErrorCaused-after, SendsFirst, StdPolicy, StreamLog, TakesAll, taken_more, WasFlushed, WritesInOrder}
 use Rattle.bodies.specs.Encode.{EndAnswers, EndsBody}
 
 module _ {W : Type 0} (tells : W → StreamLog) (trace : W → W → Type 0) where
@@ -35,24 +35,10 @@ module _ {W : Type 0} (tells : W → StreamLog) (trace : W → W → Type 0) whe
       let sent = not.sends in
       let writes = WritesOn-unflushed b.writer c.writer [] sent.in_order sent.not_flushed in
       let row = unsent_row b.writer c.writer sent in
-      record {
-        end = [];
-        taken = sent.in_order;
-        answers = (
-          inr refl,
-          (e, refl, sent.caused, λ is. inl (elim row.ended [ inl failed ↦ failed.1 is | inr refused ↦ absurd refused.1 ])),
-        );
-        room = sent.capacity;
-        writes = writes;
-        few = row.few;
-        once = omega (arith, sent.sends.sent.flushes);
-        flushes = omega (
-          arith,
-          sent.sends.sent.flushes,
-          ap length writes.received.equal,
-          length-append b.writer.log.writes.received writes.received.more,
-        );
-      }
+      let more = length-append b.writer.log.writes.received writes.received.more in
+      let answers : EndAnswers b.writer [] (Err (Write e)) c.writer =
+      (inr refl, (e, refl, sent.caused, λ is. inl (elim row.ended [ inl failed ↦ failed.1 is | inr refused ↦ absurd refused.1 ]))) in
+      search rules
 
   -- the end of a body, and a flush
   module _ (b : ChunkedWriterState W) (m v : Buffered W StdPolicy) (goes : Finishes tells trace b [] m) where
@@ -63,10 +49,7 @@ module _ {W : Type 0} (tells : W → StreamLog) (trace : W → W → Type 0) whe
     row = TakesAll-row u m (takes_put goes.fits goes.full goes.in_order (omega arith))
 
     kept : m.block.capacity ≡ u.block.capacity
-    kept = elim (cases_lt (room u) (length (body_end []))) [
-      | inl none ↦ (let first = goes.full none in first.puts.capacity ∙ first.sends.capacity)
-      | inr there ↦ (goes.fits there).capacity
-    ]
+    kept = grind (arith, goes.fits, goes.full)
 
     ends : (answer : Result (Unit {0}) Error) → WasFlushed tells trace m answer v
         → (said : Result (Unit {0}) (RunError InputFault)) → failure_count answer ≡ failure_count said
@@ -75,25 +58,10 @@ module _ {W : Type 0} (tells : W → StreamLog) (trace : W → W → Type 0) whe
         let flush = WasFlushed-writes m v f in
         let writes = WritesOn-joins u.log.writes m.log.writes v.log.writes
         (WritesOn-unflushed u m (body_end []) goes.in_order row.not_flushed) flush.writes in
-        record {
-          end = body_end [];
-          taken = WritesInOrder-then u m v (body_end []) goes.in_order f.in_order;
-          answers = answers;
-          room = f.capacity ∙ kept;
-          writes = writes;
-          few = omega (arith, row.few, flush.few, same_count);
-          once = omega (arith, Flushes-once m v answer f.steps, row.flushes);
-          flushes = elim flush.flushes [
-            | inl same ↦ omega (
-              arith,
-              same,
-              row.flushes,
-              ap length writes.received.equal,
-              length-append u.log.writes.received writes.received.more,
-            )
-            | inr once ↦ omega (arith, once.0, once.1, row.flushes, taken_more u m (body_end []) goes.in_order)
-          ];
-        }
+        let taken = WritesInOrder-then u m v (body_end []) goes.in_order f.in_order in
+        let more = taken_more u m (body_end []) goes.in_order in
+        let received = length-append u.log.writes.received writes.received.more in
+        search (rules, kept, row, Flushes-once m v answer f.steps)
 
     pub ends_well : WasFlushed tells trace m (Ok tt) v → EndsBody u (Ok tt) v
     ends_well f = ends (Ok tt) f (Ok tt) refl (
@@ -110,12 +78,7 @@ module _ {W : Type 0} (tells : W → StreamLog) (trace : W → W → Type 0) whe
         refl,
         SendErrorCaused-after u.log.writes m.log.writes v.log.writes e row.ended f.caused,
         λ is. elim ((WasFlushed-writes m v f).ended.1 is) [
-          | inl many ↦ inl (omega (
-            arith,
-            many,
-            ap length row.ended.only.faults,
-            length-append u.log.writes.faults row.ended.interrupts,
-          ))
+          | inl many ↦ inl (grind (arith, row, length-append))
           | inr none ↦ inr (nil_from_length v.block.bytes none, refl)
         ],
       ),

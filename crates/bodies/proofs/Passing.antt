@@ -17,26 +17,13 @@ module _ {R : Type 0} (remaining : R → Option (List ℕ)) (limits : Limits) wh
     count = n;
     few = omega (arith, looks.2.few, length-take-le n s.block.bytes looks.1);
     none = λ none. absurd (omega (arith, looks.0, none));
-    gone = omega (
-      arith,
-      looks.1,
-      ap (λ b. length b.bytes) went.told_policy.allowed.1,
-      ap length went.dropped.bytes,
-      length-drop (min n (length s.block.bytes)) s.block.bytes,
-      ap (λ l. length l.reads.given) went.told,
-    );
+    gone = grind (arith, looks.1, went.told_policy.allowed.1, went.dropped.bytes, went.told, length-drop);
   }
   pass_once s p t q (inr (along, policy, same)) = record {
     count = 0;
     few = omega (arith, ap (chunked limits).between same);
     none = λ none. same;
-    gone = omega (
-      arith,
-      ap length along.in_order.equal,
-      ap length along.in_order.given,
-      length-append s.block.bytes along.in_order.got,
-      length-append s.log.reads.given along.in_order.got,
-    );
+    gone = grind (arith, along.in_order, length-append);
   }
 
   pass_many : (k : ℕ) (s : Buffered R StdPolicy) (p : Place) (t : Buffered R StdPolicy) (q : Place)
@@ -80,15 +67,7 @@ module _ {R : Type 0} (remaining : R → Option (List ℕ)) (s m : ChunkedState 
   wired : length went.wire ≡ passed.count
   wired =
       let order = went.along.in_order in
-      omega (
-        arith,
-        passed.gone,
-        ap length order.equal,
-        ap length order.given,
-        length-append s.reader.block.bytes order.got,
-        length-append s.reader.log.reads.given order.got,
-        length-append went.wire m.reader.block.bytes,
-      )
+      omega (arith, passed.gone, ap length order.equal, ap length order.given, length-append {A = ℕ})
 
   longer : length m.taken ≡ length s.taken + length went.wire
   longer = ap length went.taken ∙ length-append s.taken went.wire

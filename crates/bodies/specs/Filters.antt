@@ -11,12 +11,10 @@ pub record Asked {R : Type 0} (Such : List ℕ → Type 0) (s t : Buffered R Std
 -- payloads that aren't empty have a byte each
 pub each_some : (payloads : List (List ℕ)) → All (λ p. 0 < length p) payloads → length payloads ≤ length (concat payloads)
 each_some [] some = omega arith
-each_some (payload ∷ payloads) some = omega (
-  arith,
-  All-head (λ p. 0 < length p) payload payloads some,
-  each_some payloads (All-tail (λ p. 0 < length p) payload payloads some),
-  length-append payload (concat payloads),
-)
+each_some (payload ∷ payloads) some =
+    let first = All-head (λ p. 0 < length p) payload payloads some in
+    let more = each_some payloads (All-tail (λ p. 0 < length p) payload payloads some) in
+    grind (arith, length-append)
 
 module _ {R : Type 0} (Such : List ℕ → Type 0) (s t : Buffered R StdPolicy) (asked : Asked Such s t) where
   -- where a read failed, each other ask gave a byte
@@ -25,14 +23,7 @@ module _ {R : Type 0} (Such : List ℕ → Type 0) (s t : Buffered R StdPolicy) 
       let more = ap length fault ∙ length-append s.log.reads.faults (e ∷ []) in
       elim asked.asked [
         | inl same ↦ omega (arith, more, ap (λ l. length l.reads.faults) same)
-        | inr over ↦ omega (
-          arith,
-          more,
-          over.asks,
-          ap length over.given,
-          length-append s.log.reads.given (over.came ++ t.log.reads.latest),
-          length-append over.came t.log.reads.latest,
-        )
+        | inr over ↦ grind (arith, more, over, length-append)
       ]
 
   -- bytes had been taken, where each ask gave a byte or failed
@@ -48,12 +39,7 @@ module _ {R : Type 0} (Such : List ℕ → Type 0) (s t : Buffered R StdPolicy) 
           (AskedLast-after first.log s.log t.log (wire ++ s.block.bytes) over.came
           (ReadsInOrder-fresh first s wire none order) gives (record {
             given = over.given;
-            asks = omega (
-              arith,
-              over.asks,
-              ap length asked.grows.faults.equal,
-              length-append s.log.reads.faults asked.grows.faults.more,
-            );
+            asks = grind (arith, over.asks, asked.grows.faults, length-append);
           })),
     )
   ]
