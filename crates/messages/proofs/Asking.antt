@@ -1,6 +1,6 @@
 -- Where a read of a body asks its stream.
 use Rattle.std.proofs.Common.{◌≡◌, ℕ, ◌+◌, ◌<◌, ◌∙◌, List, [], ◌∷◌, ◌++◌, length, inl, inr, Option, Result, Ok, Err, ap, subst, sym, arith, append-nil, length-append}
-use Rattle.messages.specs.Names.{body_rules, BodyWent, cases_lt, handed_of, IsBody, IsBodyReader, length-take-le, nil_from_length, none_wrong, NoPayload, Reader, ReadsAlong-stream, ReadsPayload, std_read_rules, StreamWent-unasked, TookWholeBody, unbuffered, WhyNone}
+use Rattle.messages.specs.Names.{body_rules, BodyWent, cases_lt, handed_of, IsBodyReader, length-take-le, nil_from_length, none_wrong, NoPayload, Reader, ReadsAlong-stream, ReadsPayload, std_read_rules, StreamWent-unasked, TookWholeBody, unbuffered, WhyNone}
 use Rattle.body_reader.specs.declared.error.BodyError.TheVariants as unread
 use Rattle.messages.specs.MessagesLaws.{body_lawful}
 
@@ -22,8 +22,7 @@ module _ {R : Type 0} {remaining : R → Option (List ℕ)} {s t : Reader R} (is
   was_over : length handed ≡ 0 → TookWholeBody (body_rules s.coding) t → TookWholeBody (body_rules s.coding) s
   was_over few whole =
       let told = went.handed ∙ ap (λ l. handed_of s ++ l) (nil_from_length handed few) ∙ append-nil (handed_of s) in
-      subst (λ l. IsBody (body_rules s.coding) l (handed_of s)) none_taken
-      (subst (IsBody (body_rules s.coding) t.taken) told whole)
+      rw (none_taken, told) at whole
 
   never_fails : (e : WhyNone) → ¬ (NoPayload (body_rules s.coding) s e t)
   never_fails (unread.Wrong why right) fails =

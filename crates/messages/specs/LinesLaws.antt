@@ -1,11 +1,10 @@
 -- What is wrong with lines stays so, and nothing is wrong with those of a request.
-use Rattle.std.specs.Prelude.{◌≡◌, ℕ, zero, suc, ◌+◌, ◌-◌, ◌<◌, ◌≤◌, ◌==◌, ◌&&◌, nat_le, if◌then◌else◌, Bool, true, false, All, IsTrue, List, [], ◌∷◌, ◌++◌, codes, flat_map, length, take}
-use Rattle.std.specs.Char.{is_ascii_digit}
+use Rattle.std.specs.Prelude.{◌≡◌, ℕ, zero, suc, ◌+◌, ◌-◌, ◌<◌, ◌≤◌, ◌==◌, if◌then◌else◌, Bool, true, false, All, IsTrue, List, [], ◌∷◌, ◌++◌, codes, flat_map, length, take}
 use Rattle.std.proofs.Common.{sym, ap, subst, ◌∙◌, arith, refl, append_assoc, length-append}
 use Rattle.httparse.specs.Grammar.{AllPass, crlf, Field, is_token_byte, is_uri_byte, is_value_byte, IsField, IsRequestHead, LineEnd, print_blank, print_end, print_field, print_request, print_section, print_version, RequestHead}
-use Rattle.messages.specs.Names.{All-head, All-tail, append-nil, Bad, Before, drop_all, EmptyReturn, EndsByBoth, false≢true, fault_on, fault_then, Feed, FirstReturn, HeaderError, IsLawful, le-leb, leads_on, leads_then, line_fault, lines, Method, More, ne_eqb, Return, scanned_headers, ScanStep, Sized, Space, Start, StartReturn, Target, Text, texts, turn, turn_fault, Version}
+use Rattle.std.proofs.lemmas.Bool.Decides.{nat_tests}
+use Rattle.messages.specs.Names.{All-head, All-tail, append-nil, Bad, Before, drop_all, EmptyReturn, EndsByBoth, fault_on, fault_then, Feed, FirstReturn, HeaderError, IsLawful, leads_on, leads_then, line_fault, lines, Method, More, Return, scanned_headers, ScanStep, Sized, Space, Start, StartReturn, Target, Text, texts, turn, turn_fault, Version}
 use Rattle.codec.specs.declared.HeaderError.TheVariants.{NoHeader, TooLong, NoTail, Truncated}
-use Rattle.codec.specs.declared.Header.{Header}
 use Rattle.codec.specs.declared.Header.TheVariants as header
 use Rattle.codec.specs.HeaderFormatLaws.{length_prefixed_lawful}
 use Rattle.codec.specs.Scanning.{IsSmall, LeadsTo, says, scan_on, scanned}
@@ -33,11 +32,9 @@ fault_stays (suc left) place used (byte ∷ bytes) more said =
 
 not_short : (bytes : List ℕ) (why : HeaderError) → texts.wrong bytes why
     → ¬ (scan_on turn 16384 Start 0 bytes ≡ header.Short)
-not_short bytes NoHeader is short = (let odd : ◌≡◌ {A = Header} header.Bad header.Short = sym is ∙ short in cc)
-not_short bytes (TooLong len) (used, is, more) short =
-    (let odd : ◌≡◌ {A = Header} (header.Sized len used) header.Short = sym is ∙ short in cc)
-not_short bytes NoTail wrong short =
-    (let odd : ◌≡◌ {A = Header} (header.Sized wrong.0 wrong.1) header.Short = sym wrong.2 ∙ short in cc)
+not_short bytes NoHeader is short = cc
+not_short bytes (TooLong len) (used, is, more) short = cc
+not_short bytes NoTail (len, used, is, more, follows) short = cc
 not_short bytes (Truncated have) wrong short = absurd wrong
 
 pub line_fault_stays : (bytes more : List ℕ) (why : HeaderError) → texts.wrong bytes why
@@ -63,18 +60,14 @@ no_token = (refl, refl, refl)
 -- what such a test lets through is a byte of a text
 stays_text : (test : ℕ → Bool) → test 13 ≡ false → test 10 ≡ false → (on : ScanStep Before) (b : ℕ) → test b ≡ true
     → (if b == 13 then on else (if b == 10 then Bad else More Text)) ≡ More Text
-stays_text test no_return no_feed on b passes =
-    ap (λ t. if t then on else (if b == 10 then Bad else More Text))
-    (ne_eqb b 13 (λ is. absurd (false≢true (sym no_return ∙ ap test (sym is) ∙ passes))))
-    ∙ ap (λ t. if t then Bad else More Text)
-    (ne_eqb b 10 (λ is. absurd (false≢true (sym no_feed ∙ ap test (sym is) ∙ passes))))
+stays_text test no_return no_feed on b passes = grind (arith, nat_tests)
 
 blank_leads : (ends : List LineEnd) → All (λ end. end ≡ crlf) ends → LeadsTo turn Start (print_blank ends) Start
 blank_leads [] all = refl
 blank_leads (end ∷ ends) all =
-    subst (λ e. LeadsTo turn Start (print_end e ++ print_blank ends) Start) (sym (All-head (λ e. e ≡ crlf) end ends all)) (
+    rw (All-head (λ e. e ≡ crlf) end ends all) (
       StartReturn,
-      ap (λ t. if t then More Method else More StartReturn) no_token.0,
+      rw no_token.0 refl,
       (Start, refl, blank_leads ends (All-tail (λ e. e ≡ crlf) end ends all)),
     )
 
@@ -94,7 +87,7 @@ field_leads f is end =
       Text,
       refl,
       leads_then turn Text f.raw Text (print_end f.end) Feed (raw_leads f.raw is.raw)
-          (subst (λ e. LeadsTo turn Text (print_end e) Feed) (sym end) (Return, refl, (Feed, refl, refl))),
+          (rw end (Return, refl, (Feed, refl, refl))),
     ))
 
 fields_lead : (fields : List Field) → All IsField fields → All (λ f. f.end ≡ crlf) fields
@@ -107,11 +100,7 @@ fields_lead (f ∷ fields) are ends =
 
 version_leads : (minor : ℕ) → minor ≤ 9 → LeadsTo turn (Version 0) (print_version minor) (Version 8)
 version_leads minor small =
-    let digit : is_ascii_digit (48 + minor) ≡ true =
-    ap (λ t. t && nat_le (48 + minor) 57) (le-leb 48 (48 + minor) (omega arith))
-    ∙ le-leb (48 + minor) 57 (omega (arith, small)) in
-    let last : turn (Version 7) (48 + minor) ≡ More (Version 8) =
-    ap (λ t. if t then More (Version 8) else (if (48 + minor == 13) && (7 == 8) then More FirstReturn else Bad)) digit in
+    let last : turn (Version 7) (48 + minor) ≡ More (Version 8) = grind (arith, nat_tests) in
     leads_then turn (Version 0) (codes "HTTP") (Version 4) (47 ∷ 49 ∷ 46 ∷ (48 + minor) ∷ []) (Version 8)
     (Version 1, refl, (Version 2, refl, (Version 3, refl, (Version 4, refl, refl))))
     (Version 5, refl, (Version 6, refl, (Version 7, refl, (Version 8, last, refl))))
@@ -135,20 +124,15 @@ request_lines h minor is small ends few =
     in
     let version : LeadsTo turn (Version 0) behind EmptyReturn =
     leads_then turn (Version 0) (print_version minor) (Version 8) line EmptyReturn
-    (version_leads minor small)
-    (subst (λ e. LeadsTo turn (Version 8) (print_end e ++ (fields ++ 13 ∷ [])) EmptyReturn) (sym ends.first)
-    (FirstReturn, refl, (Feed, refl, section))) in
+    (version_leads minor small) (rw ends.first (FirstReturn, refl, (Feed, refl, section))) in
     let target : LeadsTo turn Space (h.target ++ 32 ∷ behind) EmptyReturn =
     leads_then turn Space h.target Target (32 ∷ behind) EmptyReturn
-    (some_lead Space Target is_uri_byte (λ b yes. ap (λ t. if t then More Target else Bad) yes)
-    (λ b yes. ap (λ t. if t then More Target else (if b == 32 then More (Version 0) else Bad)) yes) h.target is.target.0
-    is.target.1) (Version 0, refl, version) in
+    (some_lead Space Target is_uri_byte (λ b yes. rw yes refl) (λ b yes. rw yes refl) h.target is.target.0 is.target.1)
+    (Version 0, refl, version) in
     let method : LeadsTo turn Start (h.method ++ 32 ∷ (h.target ++ 32 ∷ behind)) EmptyReturn =
     leads_then turn Start h.method Method (32 ∷ (h.target ++ 32 ∷ behind)) EmptyReturn
-    (some_lead Start Method is_token_byte
-    (λ b yes. ap (λ t. if t then More Method else (if b == 13 then More StartReturn else Bad)) yes)
-    (λ b yes. ap (λ t. if t then More Method else (if b == 32 then More Space else Bad)) yes) h.method is.method.0 is.method.1)
-    (Space, ap (λ t. if t then More Method else More Space) no_token.2, target) in
+    (some_lead Start Method is_token_byte (λ b yes. rw yes refl) (λ b yes. rw yes refl) h.method is.method.0 is.method.1)
+    (Space, rw no_token.2 refl, target) in
     let leads : LeadsTo turn Start front EmptyReturn =
     leads_then turn Start (print_blank h.blank) Start (h.method ++ 32 ∷ (h.target ++ 32 ∷ behind)) EmptyReturn
     (blank_leads h.blank ends.blank) method in

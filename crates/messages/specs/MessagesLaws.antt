@@ -151,9 +151,7 @@ module _ {S : Type 0} (remaining : S → Option (List ℕ)) where
   whole_body {limits} {b} {handed} {t} enters went whole =
       let wire : t.taken ≡ went.wire = went.taken ∙ ap (λ x. x.body.taken ++ went.wire) enters.is in
       let payload : handed_of t ≡ handed = went.handed ∙ ap (λ x. handed_of x.body ++ handed) enters.is in
-      subst (λ c. IsBody (body_rules c) went.wire handed) (ap (λ x. x.body.coding) enters.is)
-      (subst (λ l. IsBody (body_rules b.body.coding) l handed) wire
-      (subst (IsBody (body_rules b.body.coding) t.taken) payload whole))
+      rw (wire, payload, ap (λ x. x.body.coding) enters.is) at whole
 
   -- whatever was read of it, a message that is begun and ended went whole
   pub MessagesWent-one : (s : ReaderState S head.Heads) (b m : InBody S) (handed : List ℕ) (t : ReaderState S head.Heads)

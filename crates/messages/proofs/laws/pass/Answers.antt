@@ -1,6 +1,6 @@
 -- The next message joins those that went, and it keeps the room and the limits.
-use Rattle.std.proofs.Common.{[], ◌∷◌, ◌++◌, ◌∙◌, arith, length-append, refl, subst}
-use Rattle.messages.specs.Names.{left_of, MessagesWent, StreamWent-none}
+use Rattle.std.proofs.Common.{[], ◌∷◌, ◌++◌, ◌∙◌, arith, ap, length-append, refl}
+use Rattle.messages.specs.Names.{left_of, StreamWent-none}
 use Rattle.messages.specs.MessagesLaws.{AreMessages-some, EachReadGave-joins, MessagesWent-joins}
 use Rattle.messages.proofs.laws.pass.Goals as goal
 
@@ -22,11 +22,8 @@ loop-preserved g c =
       messages = before.messages ++ (one.0, one.1) ∷ [];
       many = omega (arith, before.many, length-append before.messages ((one.0, one.1) ∷ []));
       went = MessagesWent-joins g.R.TellRead.remaining c.args.requests.decoder.0 (left_of c.args.requests) (left_of c.loop.next)
-          (left_of c.in-Ok.behind)
-          before.messages ((one.0, one.1) ∷ []) before.went
-          (subst (λ d. MessagesWent g.R.TellRead.remaining d.0 (left_of c.loop.next) ((one.0, one.1) ∷ [])
-          (left_of c.in-Ok.behind))
-          before.limits one.2);
+          (left_of c.in-Ok.behind) before.messages ((one.0, one.1) ∷ []) before.went
+          (rw (ap (λ d. d.0) before.limits) at one.2);
       gave = EachReadGave-joins (left_of c.args.requests) (left_of c.loop.next) (left_of c.in-Ok.behind) before.gave one.3;
       limits = one.5 ∙ before.limits;
       room = one.4 ∙ before.room;
