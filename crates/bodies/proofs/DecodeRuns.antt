@@ -85,14 +85,9 @@ module _ {R W : Type 0} (remaining : R → Option (List ℕ)) (limits : Limits) 
 
     -- there are no more payloads than bytes of them
     counted : count ≤ length (moved.sent ++ moved.unsent)
-    counted = omega (
-      arith,
-      over.all,
-      each_some over.payloads over.moves.hands.some,
-      ap length parts,
-      ap length parted,
-      length-append (concat over.payloads) (held_payload t),
-    )
+    counted =
+        let some = each_some over.payloads over.moves.hands.some in
+        omega (arith, over.all, some, ap length parts, ap length parted, length-append {A = ℕ})
 
     -- what went over was sent
     module _ (held : t.held ≡ 0) (sent : AllSent t.target) where
@@ -129,14 +124,13 @@ module _ {R W : Type 0} (remaining : R → Option (List ℕ)) (limits : Limits) 
   -- the run was stopped
   pub stopped : (count : ℕ) (why : Cause InputFault) (e : RunError InputFault) → StopsBy rules count begin why t → IsErrorOf why e
       → Ran (Err e)
-  stopped count (cause.Wrong why) e (over, (held, end), sent, met) is =
-      subst (λ x. Ran (Err x)) (sym is) (wrong count over held sent why end met)
-  stopped count (cause.Read fault) e (over, (held, left), sent, again, failed) is = subst (λ x. Ran (Err x)) (sym is)
-      (moved_all count over held sent, part_sent count over held sent, left, failed)
+  stopped count (cause.Wrong why) e (over, (held, end), sent, met) is = rw is (wrong count over held sent why end met)
+  stopped count (cause.Read fault) e (over, (held, left), sent, again, failed) is =
+      rw is (moved_all count over held sent, part_sent count over held sent, left, failed)
   stopped count (cause.Write fault) e (first, inr refused) is = absurd refused.1
   stopped count (cause.Write fault) e (first, inl failed) is =
       let over = ForwardedFirst-all rules refl first in
-      subst (λ x. Ran (Err x)) (sym is) (
+      rw is (
         moved count over,
         due count over,
         WriteGaveUp-so (λ none. (
@@ -144,7 +138,7 @@ module _ {R W : Type 0} (remaining : R → Option (List ℕ)) (limits : Limits) 
           none_left count over none.2.1,
         )) failed,
       )
-  stopped count cause.Count e (over, large, met) is = subst (λ x. Ran (Err x)) (sym is.2) (
+  stopped count cause.Count e (over, large, met) is = rw is.2 (
     moved count over,
     due count over,
     inl (record { other = is.1; large = omega (arith, large, counted count over); met = met }),

@@ -133,30 +133,17 @@ module _ {R W : Type 0} (remaining : R → Option (List ℕ)) {s : Decoding R W}
 
     some_came : (t : ChunkedState R) (n : ℕ) → Source.AsksPromptly s.source t
         → came s.source.reader.log.reads < came t.reader.log.reads → SomeCame decoding s (asked t n)
-    some_came t n over more = record {
-      asks = elim over.asked [
-        | inl same ↦ absurd (omega (arith, more, ap (λ l. came l.reads) same))
-        | inr ask ↦ ask.some
-      ];
-      more = more;
-    }
+    some_came t n over more = record { asks = grind (arith, more, over.asked); more = more }
 
     pub asked_more : NoneBuffered s.source → (n : ℕ)
         → ReadsPayload remaining std_read_rules (chunked s.source.coding.0) s.source out (Ok n) m → 0 < n
         → FilterAsks decoding s (Ok true) (asked m n)
     asked_more lacks n p some =
         let gave = p.answers.1 in
-        asks_so m n (omega (arith, p.answers.0, len, ready.room)) p.went (here p) (over p)
-        (omega (arith, gave.zero_reads)) (Ok true) (
-          some,
-          gave.faults,
-          inl (record { zero_reads = gave.zero_reads; give = omega (arith, gave.asks, ap length gave.faults) }),
-          some_came m n (over p) (omega (
-            arith,
-            gave.zero_reads,
-            some_given remaining s.source m ready.whole out _ p (taken_some remaining s.source m ready.whole out n p some) lacks,
-          )),
-        )
+        let took = taken_some remaining s.source m ready.whole out n p some in
+        let more = some_given remaining s.source m ready.whole out _ p took lacks in
+        asks_so m n (omega (arith, p.answers.0, len, ready.room)) p.went (here p) (over p) (omega (arith, gave.zero_reads))
+        (Ok true) (search (rules, some_came m n (over p)))
 
     -- the stream failed, and bytes came in this ask or none
     faulted : (e : Error) (came : Bool) → came ≡ nat_lt (taken_count s.source) (taken_count m)
@@ -198,10 +185,9 @@ module _ {R W : Type 0} (remaining : R → Option (List ℕ)) {s : Decoding R W}
         let fault = p.answers.0 in
         let found = early_none m (subst (λ c. EndsEarly (chunked c.0) m) (sym p.went.coding) p.answers.1) in
         asks_none m p.went (here p) (over p) (omega (arith, fault.1)) (Err (ask_error came (body.Io e)))
-        (faulted e came is p.went p.tells m refl (none, found.1) fault.0 (inl (record {
-          zero_reads = fault.1;
-          give = fault_gives Such s.source.reader m.reader (over p) e fault.0;
-        })) (λ taken. some_came m s.held (over p) (omega (arith, fault.1, came_given lacks p taken))))
+        (faulted e came is p.went p.tells m refl (none, found.1) fault.0
+        (inl (record { zero_reads = fault.1; give = fault_gives Such s.source.reader m.reader (over p) e fault.0 }))
+        (λ taken. some_came m s.held (over p) (omega (arith, fault.1, came_given lacks p taken))))
 
     -- the body ended, and then it was asked whether more follows
     module _ (lacks : NoneBuffered s.source) (k : ℕ) (nothing : k ≡ 0)
@@ -255,15 +241,10 @@ module _ {R W : Type 0} (remaining : R → Option (List ℕ)) {s : Decoding R W}
           let failed = looks.answers.1 in
           let fault = failed.0 ∙ ap (λ l. l ++ e ∷ []) gave.faults in
           asks_behind looks (end_answer came (Err e) (taken_count t)) (omega (arith, failed.1))
-          (faulted e came is first (rw nothing at p.tells) t (ap (λ d. most_wanted d) looks.still) (none, looks.answers.0)
-          fault (inl (record {
+          (faulted e came is first (rw nothing at p.tells) t (ap (λ d. most_wanted d) looks.still) (none, looks.answers.0) fault
+          (inl (record {
             zero_reads = failed.1 ∙ gave.zero_reads;
             give = fault_gives Such s.source.reader t.reader (over_on looks) e fault;
-          })) (λ taken. some_came t s.held (over_on looks) (omega (
-            arith,
-            failed.1,
-            gave.zero_reads,
-            came_given lacks p taken,
-            ap length looks.went.along.grows.given.equal,
-            length-append m.reader.log.reads.given looks.went.along.grows.given.more,
-          ))))
+          }))
+          (λ taken. let more = came_given lacks p taken in
+          some_came t s.held (over_on looks) (grind (arith, failed.1, gave, looks.went.along.grows.given, length-append))))

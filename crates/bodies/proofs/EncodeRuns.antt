@@ -18,14 +18,7 @@ cut_short : (sent behind payload : List ℕ) → IsBodyOfChunks least (sent ++ b
 cut_short sent behind payload whole some limits body payload' more is begins =
     let same = IsBodyOfChunks-same limits least body (sent ++ behind) payload' payload (more ++ behind) [] is whole
     (sym (append_assoc body more behind) ∙ ap (λ l. l ++ behind) (sym begins) ∙ sym (append-nil (sent ++ behind))) in
-    absurd (omega (
-      arith,
-      some,
-      ap length same.0,
-      ap length begins,
-      length-append sent behind,
-      length-append body more,
-    ))
+    absurd (omega (arith, some, ap length same.0, ap length begins, length-append {A = ℕ}))
 
 -- the body's end, with which chunks are one, wasn't taken in
 unended : {read read' written' written'' : StreamLog} (m : Moved read read' written' written'')
@@ -120,7 +113,7 @@ module _ {R W : Type 0} (trace : W → W → Type 0) (first : Buffered R StdPoli
           (record { reader = OnlyInterrupts-none t.source.log.reads.faults; writer = end.answers.2 }),
     )
     ended (Err why) end =
-        subst (λ x. EncodeRan first.log t.source.log u.log v.log (Err x)) (sym end.answers.1.1) (
+        rw end.answers.1.1 (
           moved count over end.end v end.taken,
           elim end.answers.0 [
             | inl all ↦ inr (is_ended count over end.end v end.taken all left once)
@@ -143,7 +136,7 @@ module _ {R W : Type 0} (trace : W → W → Type 0) (first : Buffered R StdPoli
   pub stopped : (count : ℕ) (why : Cause InputFault) (e : RunError InputFault) → StopsBy rules count begin why t
       → IsErrorOf why e → Ran e
   stopped count (cause.Wrong why) e (over, wrong, sent, met) is = absurd wrong
-  stopped count (cause.Read fault) e (over, left, sent, again, failed) is = subst Ran (sym is) (
+  stopped count (cause.Read fault) e (over, left, sent, again, failed) is = rw is (
     moved_all count over [] t.target.writer still sent,
     not_ended count over [] t.target.writer still refl,
     left,
@@ -152,7 +145,7 @@ module _ {R W : Type 0} (trace : W → W → Type 0) (first : Buffered R StdPoli
   stopped count (cause.Write fault) e (p, inr refused) is = absurd refused.1
   stopped count (cause.Write fault) e (p, inl failed) is =
       let over = ForwardedFirst-all rules refl p in
-      subst Ran (sym is) (
+      rw is (
         moved count over [] t.target.writer still,
         inl (not_ended count over [] t.target.writer still refl),
         WriteGaveUp-so (λ none. (
@@ -161,18 +154,13 @@ module _ {R W : Type 0} (trace : W → W → Type 0) (first : Buffered R StdPoli
           elim none.3 [ inl never ↦ inl never.zero_reads | inr closed ↦ absurd closed ],
         )) failed,
       )
-  stopped count cause.Count e (over, large, met) is = subst Ran (sym is.2) (
+  stopped count cause.Count e (over, large, met) is = rw is.2 (
     moved count over [] t.target.writer still,
     not_ended count over [] t.target.writer still refl,
     inl (record {
       other = is.1;
-      large = omega (
-        arith,
-        large,
-        over.all,
-        each_some over.payloads (All-weaker IsCarried (λ l. 0 < length l) (λ l carried. carried.0) over.payloads
-            over.moves.takes.carried),
-      );
+      large = omega (arith, large, over.all, each_some over.payloads (All-weaker IsCarried (λ l. 0 < length l)
+          (λ l carried. carried.0) over.payloads over.moves.takes.carried));
       met = met;
     }),
   )

@@ -29,11 +29,8 @@ module _ {R W : Type 0} (remaining : R → Option (List ℕ)) where
     payload = f.payload ++ g.payload;
     went = BodyWent-joins remaining std_read_rules (chunked a.source.coding.0) a.source b.source c.source f.payload g.payload
         f.went (subst (λ x. BodyWent remaining std_read_rules (chunked x.0) b.source g.payload c.source) f.went.coding g.went);
-    order =
-        sym (append_assoc (held_payload a) f.payload g.payload)
-        ∙ ap (λ l. l ++ g.payload) f.order ∙ append_assoc (concat p) (held_payload b) g.payload
-        ∙ ap (λ l. concat p ++ l) g.order ∙ sym (append_assoc (concat p) (concat q) (held_payload c))
-        ∙ ap (λ l. l ++ held_payload c) (sym (concat-append p q));
+    order = sym (append_assoc (held_payload a) f.payload g.payload)
+        ∙ rw (f.order, append_assoc (concat p) (held_payload b) g.payload, g.order, concat-append, append_assoc) refl;
     some = All-append (λ piece. 0 < length piece) p q f.some g.some;
   }
 
