@@ -69,8 +69,7 @@ module _ {R W : Type 0} (remaining : R → Option (List ℕ)) (limits : Limits) 
 
     is_body : (bytes : List ℕ) → bytes ≡ payload → TookWholeBody (chunked t.source.coding.0) t.source
         → IsBodyOfChunks limits t.source.taken bytes
-    is_body bytes same whole = subst (IsBodyOfChunks limits t.source.taken) (sym same)
-        (rw (over.moves.hands.went.coding, over.moves.hands.went.handed) at whole)
+    is_body bytes same whole = rw same (rw (over.moves.hands.went.coding, over.moves.hands.went.handed) at whole)
 
     abbrev due : IsDue limits t.source.taken (moved.sent ++ moved.unsent)
     due = part (moved.sent ++ moved.unsent) parts

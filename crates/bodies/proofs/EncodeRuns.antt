@@ -1,5 +1,5 @@
 -- What a whole run of `encode` comes to.
-use Rattle.std.proofs.Common.{◌≡◌, ◌≤◌, ℕ, ◌+◌, ◌<◌, inl, inr, List, [], ◌++◌, length, length-append, Result, Ok, Err, OnOk, refl, sym, ap, subst, ◌∙◌, arith, append_assoc, append-nil}
+use Rattle.std.proofs.Common.{◌≡◌, ◌≤◌, ℕ, ◌+◌, ◌<◌, inl, inr, List, [], ◌++◌, length, length-append, Result, Ok, Err, OnOk, refl, sym, ap, ◌∙◌, arith, append_assoc, append-nil}
 use Rattle.chunked.specs.BodyLaws.{IsBodyOfChunks-same}
 use Rattle.chunked.specs.ChunkLaws.{IsChunks-body, chunks_body}
 use Rattle.programs.specs.declared.error.RunError.TheVariants.{Io}
@@ -23,13 +23,10 @@ cut_short sent behind payload whole some limits body payload' more is begins =
 -- the body's end, with which chunks are one, wasn't taken in
 unended : {read read' written' written'' : StreamLog} (m : Moved read read' written' written'')
     (chunks : IsChunks (m.sent ++ m.unsent) m.taken) → ChunkEachRead chunks.payloads m.rest read.reads read'.reads → IsUnended m
-unended m chunks each = record {
-  chunks = chunks;
-  each = each;
-  cut = cut_short m.sent (m.unsent ++ body_end []) m.taken
-      (rw append_assoc at (IsChunks-body least (omega arith) [] tt (omega arith) (m.sent ++ m.unsent) m.taken chunks))
-      (omega (arith, length-append m.unsent (body_end [])));
-}
+unended m chunks each =
+    let whole = rw append_assoc at (IsChunks-body least (omega arith) [] tt (omega arith) (m.sent ++ m.unsent) m.taken chunks) in
+    let cut = cut_short m.sent (m.unsent ++ body_end []) m.taken whole (omega (arith, length-append m.unsent (body_end []))) in
+    record { chunks = chunks; each = each; cut = cut }
 
 -- a filter before a body
 abbrev pub start : {R W : Type 0} → Buffered R StdPolicy → Buffered W StdPolicy → Encoding R W
@@ -87,8 +84,7 @@ module _ {R W : Type 0} (trace : W → W → Type 0) (first : Buffered R StdPoli
           chunks = chunks;
           carries = is_chunks chunks refl;
           ended = whole;
-          is_body = λ limits line. subst (λ l. IsBodyOfChunks limits l (concat over.payloads)) (sym whole)
-              (chunks_body limits line over.payloads over.moves.takes.carried);
+          is_body = λ limits line. rw whole (chunks_body limits line over.payloads over.moves.takes.carried);
         } in
         record {
           body = body;

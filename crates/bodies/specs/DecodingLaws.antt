@@ -1,6 +1,6 @@
 -- The payload of a body is handed out in order, and what is due is sent with it.
 use Rattle.std.proofs.Common.{◌≡◌, ℕ, ◌<◌, inl, inr, List, [], ◌++◌, length, take, Option, Result, Ok, Err, refl, sym, ap, subst, ◌∙◌, arith, append-nil, append_assoc}
-use Rattle.bodies.specs.Words.{std_read_rules, StdPolicy, BodyWent, chunked, handed_of, AsksSent, FilterRules, NeverGaveNothing, IsLawful, Moves, StaysOpen, AllSent, sent_all, taken_more, InputFault, concat, concat-append, All-append, All-nil, WritesInOrder-joins, WritesInOrder-none, LeavesRoom, BodyWent-joins, BodyWent-none, Decoding}
+use Rattle.bodies.specs.Words.{std_read_rules, BodyWent, chunked, handed_of, AsksSent, FilterRules, NeverGaveNothing, IsLawful, Moves, StaysOpen, AllSent, sent_all, taken_more, InputFault, concat, concat-append, All-append, All-nil, WritesInOrder-joins, WritesInOrder-none, BodyWent-joins, BodyWent-none, Decoding}
 use Rattle.bodies.specs.Decode.{IsDue}
 use Rattle.bodies.specs.Filters.{asked_after}
 use Rattle.bodies.specs.Decoding.{AsksPromptly, HandsPayloadPieces, PayloadEnds, TakesPayload, decoding_rules, held_payload}
@@ -36,10 +36,9 @@ module _ {R W : Type 0} (remaining : R → Option (List ℕ)) where
 
   takes_joins : (a b c : Decoding R W) (p q : List (List ℕ)) → TakesPayload a.target p b.target → TakesPayload b.target q c.target
       → TakesPayload a.target (p ++ q) c.target
-  takes_joins a b c p q f g = record {
-    in_order = rw concat-append (WritesInOrder-joins a.target b.target c.target (concat p) (concat q) f.in_order g.in_order);
-    room = g.room ∙ f.room;
-  }
+  takes_joins a b c p q f g =
+      let order = WritesInOrder-joins a.target b.target c.target (concat p) (concat q) f.in_order g.in_order in
+      record { in_order = rw concat-append order; room = g.room ∙ f.room }
 
   ends_after : (a b c : Decoding R W) (how : Result (Unit {0}) InputFault) → NeverGaveNothing filter_rules a b
       → PayloadEnds b.source how c.source
@@ -57,14 +56,6 @@ module _ {R W : Type 0} (remaining : R → Option (List ℕ)) where
   pub none_held : (s : Decoding R W) → s.held ≡ 0 → held_payload s ≡ []
   none_held s none = ap (λ n. take n s.piece.items) none
 
-  -- what was handed out went over
-  pub handed_joined : (s t : Decoding R W) (p : List (List ℕ)) (hands : HandsPayloadPieces remaining s p t) → s.held ≡ 0
-      → t.held ≡ 0
-      → hands.payload ≡ concat p
-  handed_joined s t p hands none none' =
-      sym (ap (λ l. l ++ hands.payload) (none_held s none)) ∙ hands.order ∙ ap (λ l. concat p ++ l) (none_held t none')
-      ∙ append-nil (concat p)
-
   asks_sent : (first s t : Decoding R W) (p : List (List ℕ)) → filter_rules.fresh first → Moves filter_rules first p p s
       → NeverGaveNothing filter_rules first s
       → s.held ≡ 0 → AllSent s.target → AsksPromptly s.source t.source → AsksSent filter_rules first s t
@@ -74,7 +65,8 @@ module _ {R W : Type 0} (remaining : R → Option (List ℕ)) where
       let due : List ℕ → Type 0 = λ bytes. IsDue m.coding.0 (m.taken ++ bytes) (handed_of m) in
       let before = first.source.taken in
       let payload : handed_of m ≡ handed_of first.source ++ concat p =
-      went.handed ∙ ap (λ l. handed_of first.source ++ l) (handed_joined first s p moves.hands fresh.held lacks) in
+      went.handed ∙ ap (λ l. handed_of first.source ++ l)
+          (rw (none_held first fresh.held, none_held s lacks, append-nil) at moves.hands.order) in
       elim (asked_after due m.reader t.source.reader asks first.source.reader went.wire fresh.buffered went.along.in_order
       gives.give) [
         | inl same ↦ inl same
@@ -100,7 +92,3 @@ module _ {R W : Type 0} (remaining : R → Option (List ℕ)) where
     asks_sent = λ first s t p fresh moves still lacks.
         asks_sent first s t p fresh moves (still_open first s still) lacks.0;
   }
-
--- the policy leaves the buffer as it is
-pub std_leaves : LeavesRoom {Q = StdPolicy} std_read_rules
-std_leaves p b n p' b' left = (ap (λ b. b.capacity) left.1, ap (λ b. b.limit) left.1)

@@ -1,5 +1,5 @@
 -- What is given is handed out in order, and what is due is sent with it.
-use Rattle.std.proofs.Common.{◌≡◌, ◌≤◌, length, ℕ, inl, inr, List, [], ◌++◌, Result, Ok, Err, false, refl, ap, ◌∙◌, arith, append-nil, length-append}
+use Rattle.std.proofs.Common.{◌≡◌, ◌≤◌, length, rules, ℕ, inl, inr, List, [], ◌++◌, Result, Ok, Err, false, refl, ap, arith, append-nil, length-append}
 use Rattle.forward.specs.Link.{Ask, Goes, Linked}
 use Rattle.bodies.specs.Words.{All-append, All-nil, concat-append, concat, flat_map, ReadsInOrder-joins, ReadsInOrder-none, ChunksWent-joins, ChunksWent-none, Goes-leaves, Buffered, StdPolicy, AsksSent, IsLawful, Moves, OffersBuffer, StaysOpen, AllSent, sent_all, taken_more, InputFault, chunk, Encoding}
 use Rattle.bodies.specs.Encoding.{HandsReads, encoding_rules}
@@ -7,21 +7,16 @@ use Rattle.bodies.specs.Filters.{Asked, asked_after}
 
 module _ {R : Type 0} where
   pub HandsReads-none : (s : Buffered R StdPolicy) → HandsReads s [] s
-  HandsReads-none s = record {
-    in_order = ReadsInOrder-none s;
-    each = omega arith;
-    small = All-nil (λ payload. length payload ≤ 8192);
-    room = refl;
-  }
+  HandsReads-none s =
+      let small = All-nil (λ (payload : List ℕ). length payload ≤ 8192) in
+      search (rules, ReadsInOrder-none)
 
   HandsReads-joins : (a b c : Buffered R StdPolicy) (p q : List (List ℕ)) → HandsReads a p b
       → HandsReads b q c → HandsReads a (p ++ q) c
-  HandsReads-joins a b c p q f g = record {
-    in_order = rw concat-append (ReadsInOrder-joins a b c (concat p) (concat q) f.in_order g.in_order);
-    each = omega (arith, f.each, g.each, length-append p q);
-    small = All-append (λ payload. length payload ≤ 8192) p q f.small g.small;
-    room = g.room ∙ f.room;
-  }
+  HandsReads-joins a b c p q f g =
+      let order = rw (← concat-append) at (ReadsInOrder-joins a b c (concat p) (concat q) f.in_order g.in_order) in
+      let small = All-append (λ (payload : List ℕ). length payload ≤ 8192) p q f.small g.small in
+      search (rules, length-append p q)
 
 module _ {R W : Type 0} (trace : W → W → Type 0) where
   ends_after : (a b c : Encoding R W) (how : Result (Unit {0}) InputFault) → StaysOpen (encoding_rules trace) a b
