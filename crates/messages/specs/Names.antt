@@ -27,17 +27,17 @@ pub use Rattle.http1.specs.Message.{known_of}
 pub use Rattle.httparse.proofs.GrammarLemmas.{request_unique}
 pub use Rattle.httparse.specs.Grammar.{ReadsRequest, RequestHead, trim_ows}
 pub use Rattle.httparse.specs.Spans.{header_bytes, IsRequestAt, name_and_value}
-pub use Rattle.messages.specs.Faults.{head_fault, IsHeadFault, lines_fault, said_fault, text_fault}
-pub use Rattle.messages.specs.Heads.{expects, extent_of, heads, is_expected, is_met, IsHead, IsHeadPiece, IsKnownHead, IsNoHead, keeps}
-pub use Rattle.messages.specs.Lines.{EndsByBoth, fault_on, fault_then, line_fault, lines, texts, too_long, turn, turn_fault}
+pub use Rattle.messages.specs.Faults.{head_fault, IsHeadFault}
+pub use Rattle.messages.specs.Heads.{extent_of, heads, is_expected, is_met, IsHead, IsHeadPiece, IsNoHead}
+pub use Rattle.messages.specs.Lines.{EndsByBoth, fault_on, fault_then, line_fault, lines, texts, turn, turn_fault}
 pub use Rattle.messages.specs.Messages.{AreMessages, Begun, body_answer, body_rules, BodyCoding, coding_of, EachReadGave, entering, Enters, FailsToFinish, FinishesBody, InBody, InsideGoes, InTurn, IsMessage, IsRoomy, Message, MessagesWent, Reader, room_of, stop_answer, TellsWhy, WhyNone}
-pub use Rattle.messages.specs.Target.{begins_with_letter, is_web, is_whole_at, IsAuthority, IsBehindScheme, IsBracketed, IsHost, IsHostAndPort, IsPlainField}
-pub use Rattle.messages.specs.Versions.{as_known, behind_blank, with_one}
+pub use Rattle.messages.specs.Target.{begins_with_letter, IsPlainField}
+pub use Rattle.messages.specs.Versions.{as_known, with_one}
 pub use Rattle.messages.specs.declared.head.Extent.{Extent}
 pub use Rattle.messages.specs.declared.head.ParsedHead.{ParsedHead}
 pub use Rattle.messages.specs.declared.limits.Limits.{Limits}
 pub use Rattle.messages.specs.declared.lines.Before.{Before}
 pub use Rattle.messages.specs.declared.lines.Before.TheVariants.{EmptyReturn, Feed, FirstReturn, Method, Return, Space, Start, StartReturn, Target, Text, Version}
-pub use Rattle.std.proofs.lemmas.Bool.{cases_lt, false≢true, le-leb, ne_eqb, true≢false}
-pub use Rattle.std.proofs.lemmas.List.{append-nil, append_cancel_left, drop_all, length-drop, length-map, length-take-le, nil_from_length, take-append-drop, take_all, take_min}
+pub use Rattle.std.proofs.lemmas.Bool.{cases_lt, false≢true, true≢false}
+pub use Rattle.std.proofs.lemmas.List.{append-nil, append_cancel_left, drop_all, length-drop, length-map, length-take-le, nil_from_length, take-append-drop, take_min}
 pub use Rattle.std.proofs.lemmas.List.Elements.{All-cons, All-get_or, All-head, All-map, All-more, All-nil, All-tail}

@@ -1,39 +1,33 @@
 -- A list is its first element, up to a comma, and those behind.
-use Rattle.std.proofs.Common.{◌≡◌, ◌∙◌, ◌&&◌, ◌+◌, ◌∷◌, ℕ, suc, Bool, List, take, drop, rules, arith, sym, ap}
+use Rattle.std.proofs.Common.{◌≡◌, refl, ◌∙◌, ◌&&◌, ◌+◌, suc, drop, rules, arith, sym, ap}
 use Rattle.std.specs.List.{list_all}
 use Rattle.std.proofs.Math.Bool.{and-true}
 use Rattle.http1.proofs.FieldsLemmas.{elements_at, elements_whole}
-use Rattle.messages.specs.Names.{elements, is_expected, trim_ows}
+use Rattle.messages.specs.Names.{elements, is_expected}
 use Rattle.messages.proofs.Rest.{take-drop}
+use Rattle.messages.proofs.expect.are_expected.Goals.{After-is_expected}
 use Rattle.messages.proofs.expect.are_expected.Goals as goal
 
 -- so each element is so if that is, and those behind are
-first : (rest element : List ℕ) (at : ℕ) (answer : Bool)
-    → elements rest ≡ trim_ows (take at rest) ∷ elements (drop (suc at) rest) → element ≡ trim_ows (take at rest)
-    → answer ≡ is_expected element
-    → list_all is_expected (elements rest) ≡ (answer && list_all is_expected (elements (drop (at + 1) rest)))
-first rest element at answer split is says =
+first : (c : After-is_expected) → list_all is_expected (elements c.loop-comma.rest.now)
+    ≡ (c.is_expected.result && list_all is_expected (elements (drop (c.in-Some.comma + 1) c.loop-comma.rest.now)))
+first c =
+    let rest = c.loop-comma.rest.now in
+    let at = c.in-Some.comma in
     let next : suc at ≡ at + 1 = omega arith in
-    ap (list_all is_expected) split
-    ∙ ap (λ n. is_expected (trim_ows (take at rest)) && list_all is_expected (elements (drop n rest))) next
-    ∙ ap (λ t. t && list_all is_expected (elements (drop (at + 1) rest))) (sym (says ∙ ap is_expected is))
+    ap (list_all is_expected) (elements_at rest at (search rules) (search rules) (search rules))
+    ∙ rw (next, c.is_expected.ensures, c.trim_ows.ensures) refl
 
 pub returns-then-not-is_expected : goal.returns-then-not-is_expected
 returns-then-not-is_expected c =
-    let rest = c.loop-comma.rest.now in
-    let at = c.in-Some.comma in
-    let split = elements_at rest at (search rules) (search rules) (search rules) in
-    sym (first rest c.trim_ows.result.now at c.is_expected.result split c.trim_ows.ensures c.is_expected.ensures
-    ∙ ap (λ t. t && list_all is_expected (elements (drop (at + 1) rest))) c.if-not-is_expected.true) ∙ c.loop-comma.invariant
+    let split = first (goal.at.returns-then-not-is_expected c).After-is_expected in
+    sym (rw c.if-not-is_expected.true at split) ∙ c.loop-comma.invariant
 
 pub loop-comma-preserved : goal.loop-comma-preserved
 loop-comma-preserved c =
-    let rest = c.loop-comma.rest.now in
-    let at = c.in-Some.comma in
-    let split = elements_at rest at (search rules) (search rules) (search rules) in
-    ap (λ l. list_all is_expected (elements l)) (take-drop (at + 1) rest)
-    ∙ sym (first rest c.trim_ows.result.now at c.is_expected.result split c.trim_ows.ensures c.is_expected.ensures
-    ∙ ap (λ t. t && list_all is_expected (elements (drop (at + 1) rest))) c.if-not-is_expected.false) ∙ c.loop-comma.invariant
+    let split = first (goal.at.loop-comma-preserved c).After-is_expected in
+    ap (λ l. list_all is_expected (elements l)) (take-drop (c.in-Some.comma + 1) c.loop-comma.rest.now)
+    ∙ sym (rw c.if-not-is_expected.false at split) ∙ c.loop-comma.invariant
 
 pub returns : goal.returns
 returns c =
