@@ -17,10 +17,6 @@ module _ {W : Type 0} {tells : W → StreamLog} {trace : W → W → Type 0} whe
       (HandsOutInOrder-none a.0) (λ front behind is. (open', is)) (Prompt-none (AwaitsBody head said) a)
 
   module _ {R : Type 0} {remaining : R → Option (List ℕ)} where
-    -- no turn was taken
-    pub no_turn : (a : Both R W) → AnswersEach remaining tells trace [] a a
-    no_turn a = (StreamWent-none remaining a.0, Prompt-none AwaitsHead a)
-
     module _ {s : Unbuffered R} {w w' : Buffered W StdPolicy} (taken handed : List ℕ) (place : Place R)
         (part : IsPartTaken place taken handed) {told : R → StreamLog}
         (asks : AsksFew (interrupt_limit + 1) s (stream_at place)) where
@@ -36,7 +32,7 @@ module _ {W : Type 0} {tells : W → StreamLog} {trace : W → W → Type 0} whe
         handed = handed;
         part = part;
         refuses = refuses;
-        turns = record { front = []; last = last; all = refl; between = (s, w); each = no_turn (s, w); turn = turn };
+        turns = record { front = []; last = last; all = refl; between = (s, w); each = refl; turn = turn };
         asks = asks;
         wrong = wrong;
         ends = ends;

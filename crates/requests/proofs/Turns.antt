@@ -15,35 +15,10 @@ module _ {R W : Type 0} (remaining : R → Option (List ℕ)) (tells : W → Str
   comes_on a c b sending went =
       Prompt-on AwaitsHead AwaitsHead a c b sending went.order (λ front behind is. is)
 
-  AnswersWhole-behind : {m : Message} {a c b : Both R W} → AnswersEach remaining tells trace [] a c
-      → AnswersWhole remaining tells trace m c (Ok tt) b → AnswersWhole remaining tells trace m a (Ok tt) b
-  AnswersWhole-behind {m = m} {a = a} {c = c} {b = b} (went, writes) one = record {
-    bytes = one.bytes;
-    is = one.is;
-    went = StreamWent-joins remaining a.0 c.0 b.0 [] one.bytes went one.went;
-    said = one.said;
-    head = one.head;
-    open' = one.open';
-    begun = one.begun;
-    calls = record {
-      went = StreamWent-joins remaining a.0 c.0 one.begun.0 [] m.0 went one.calls.went;
-      before = one.calls.before;
-      comes = comes_on a c (one.begun.0, one.calls.before) (Ok tt) went writes one.calls.comes;
-      call = one.calls.call;
-    };
-    before = one.before;
-    reads = one.reads;
-    answers = one.answers;
-  }
-
   -- each did, and then each of more
   pub AnswersEach-joins : (ms ns : List Message) (a c b : Both R W) → AnswersEach remaining tells trace ms a c
       → AnswersEach remaining tells trace ns c b → AnswersEach remaining tells trace (ms ++ ns) a b
-  AnswersEach-joins [] [] a c b (went, writes) (more, then) = (
-    StreamWent-joins remaining a.0 c.0 b.0 [] [] went more,
-    comes_on a c b (Ok tt) went writes then,
-  )
-  AnswersEach-joins [] (n ∷ ns) a c b none (d, one, later) = (d, AnswersWhole-behind none one, later)
+  AnswersEach-joins [] ns a c b same then = subst (λ x. AnswersEach remaining tells trace ns x b) (sym same) then
   AnswersEach-joins (m ∷ ms) ns a c b (d, one, later) more = (d, one, AnswersEach-joins ms ns d c b later more)
 
   -- what the writer has buffered is all that wasn't sent, still
@@ -58,7 +33,7 @@ module _ {R W : Type 0} (remaining : R → Option (List ℕ)) (tells : W → Str
 
   pub AnswersEach-held : (ms : List Message) (a b : Both R W) → AnswersEach remaining tells trace ms a b → IsHeld a.1
       → IsHeld b.1
-  AnswersEach-held [] a b (went, writes) held = Prompt-held (Ok tt) writes held
+  AnswersEach-held [] a b same held = subst (λ x. IsHeld x.1) same held
   AnswersEach-held (m ∷ ms) a b (c, one, later) held = AnswersEach-held ms c b later (message_held (Ok tt) one held)
 
   refusal_held : (Open : List ℕ → List ℕ → Type 0) (refuses : Option Refusal) (a b : Both R W) (sending : Result (Unit {0}) Error)

@@ -277,9 +277,9 @@ module _ {R W : Type 0} (remaining : R → Option (List ℕ)) (tells : W → Str
     pub reads : Prompt tells trace (AwaitsBody m.0 said) begun (Ok tt) (b.0, before)
     pub answers : WritesParts tells trace before (answered (is_known m.0) said (length m.1)) sending b.1
 
-  -- each of these went and was answered so, before a byte of the next was taken
+  -- each of these went and was answered so, before a byte of the next was taken, and nothing else was done
   abbrev pub AnswersEach : List Message → Both R W → Both R W → Type 0
-  AnswersEach [] a b = StreamWent remaining a.0 [] b.0 × Prompt tells trace AwaitsHead a (Ok tt) b
+  AnswersEach [] a b = a ≡ b
   AnswersEach (m ∷ later) a b = (c : Both R W) × AnswersWhole m a (Ok tt) c × AnswersEach later c b
 
   -- so much was asked for, or sending what is held failed; or then this was refused, or that failed

@@ -1,7 +1,7 @@
 -- A message that was taken whole is answered behind the call; of another a part is all that went.
 use Rattle.std.proofs.Common.{◌≡◌, ◌⊎◌, All, Bool, List, ℕ, None, [], ◌∷◌, true, false, inr, ap, sym, ◌∙◌, refl, inl, arith}
 use Rattle.requests.proofs.Names.{All-cons, All-nil, Before, ends_of, is_known, IsClosed, IsHead, left_of, MayFollow, Over, ParsedHead, Place, stream_at, Unbuffered, Unsent, usual}
-use Rattle.requests.proofs.Answering.{RunsToLast-one, no_turn, one_answered, torn_answered}
+use Rattle.requests.proofs.Answering.{RunsToLast-one, one_answered, torn_answered}
 use Rattle.requests.proofs.Reading.{AsksFew-upto, Closes-one, begun_head, steadily}
 use Rattle.requests.proofs.answer_called.Goals as goal
 
@@ -27,7 +27,7 @@ returns-then-said-clause-turns g c = λ s w v come call.
           one_answered c.requires.open come whole
               c.said-said.ensures.value (c.is_known-known.ensures ∙ ap is_known c.head.ensures) call c.in-Ok.ensures.writes
               c.in-Ok-answer_whole.ensures,
-          no_turn (left_of c.in-Ok.requests, c.answer_whole.new.writer),
+          refl,
         );
         keep = All-cons (MayFollow true) (b.head, whole.1) [] (b.said, head, keeps) (All-nil (MayFollow true));
         reads = reads;

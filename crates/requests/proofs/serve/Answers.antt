@@ -2,7 +2,6 @@
 use Rattle.std.proofs.Common.{[], ◌++◌, ◌∙◌, None, true, refl, sym, append-nil, arith, length-append}
 use Rattle.requests.proofs.Names.{All-append, All-nil, AwaitsHead, left_of, MayFollow, StreamWent-none}
 use Rattle.requests.specs.declared.Ending.TheVariants.{Many}
-use Rattle.requests.proofs.Answering.{no_turn}
 use Rattle.requests.proofs.Reading.{AsksFew-after, AsksFew-upto, steadily, steady_same}
 use Rattle.requests.proofs.Sending.{Prompt-none}
 use Rattle.requests.proofs.Turns.{AnswersEach-held, AnswersEach-joins, RunsToLast-after, RunsToLast-held}
@@ -12,7 +11,7 @@ pub loop-message-init : goal.loop-message-init
 loop-message-init g c = record {
   goes = record {
     messages = [];
-    each = no_turn (left_of c.args.requests, c.args.writer.now);
+    each = refl;
     keep = All-nil (MayFollow true);
     reads = steady_same _ _ refl;
   };
