@@ -1,6 +1,6 @@
 -- What reads of a run met.
 use Rattle.std.proofs.Common.{◌≡◌, ℕ, ◌+◌, ◌≤◌, true, false, List, [], ◌∷◌, ◌++◌, All, length, Option, None, Some, Result, Ok, Err, sym, ap, subst, inl, inr, ◌∙◌, refl, arith, append_assoc, append-nil, length-append}
-use Rattle.requests.proofs.Names.{All-append, All-nil, AskedWhere, AsksFew, BadHead, Begun, body_error, body_rules, BodyCoding, BodyPlace, Breaks, Buffered, Closes, CameToBody, coding_of, ends_of, Enters, Error, FailsInRead, FailsToFinish, FaultAfterInterrupts, FaultAfterInterrupts-after, faults_of, FewFailed, FinishesBody, handed_of, Heads, heads, InBody, Inside, InsideGoes, IsBodyReader, IsHead, IsOpen, IsPartTaken, LeadsOpen, left_of, Malformed, MayFollow, Message, MetEnd, MetEnd-once, nil_from_length, NextAnswer, NextAnswers, NextPiece, NoEnd, NoFault, NoPayload, one_ahead, OnlyInterrupts, OnlyInterrupts-joins, OnlyInterrupts-none, PiecesWent-stream, Reader, ReaderState, OneReadFails, ReadsAlong-stream, ReadsPayload, ReadsSteadily, Side, std_read_rules, stream_in, StreamWent, StdPolicy, StreamLog, StreamWent-joins, TellsWhy, TookWholeBody, Unbuffered, unbuffered, usual, WhyNone}
+use Rattle.requests.proofs.Names.{All-append, All-nil, AskedWhere, AsksFew, BadHead, BadRequest, Begun, body_error, body_rules, BodyCoding, BodyPlace, Breaks, Buffered, Closes, CameToBody, coding_of, ends_of, Enters, Error, FailsInRead, FailsToFinish, FaultAfterInterrupts, FaultAfterInterrupts-after, faults_of, FewFailed, FinishesBody, handed_of, Heads, heads, InBody, Inside, InsideGoes, IsBodyReader, IsHead, Io, IsOpen, IsPartTaken, IsToBeRefused, LeadsOpen, left_of, Malformed, MayFollow, Message, MetEnd, MetEnd-once, nil_from_length, NextAnswer, NextAnswers, NextPiece, NoEnd, NoFault, NoPayload, one_ahead, OnlyInterrupts, OnlyInterrupts-joins, OnlyInterrupts-none, PiecesWent-stream, Reader, ReaderState, OneReadFails, ReadsAlong-stream, ReadsPayload, ReadsSteadily, Side, std_read_rules, stream_in, StreamWent, StdPolicy, StreamLog, StreamWent-joins, TellsWhy, TookWholeBody, Truncated, Unbuffered, unbuffered, Untaken, usual, WhyNone, Wrong}
 use Rattle.body_reader.specs.BetweenLaws.{AsksWithRoom-open}
 use Rattle.body_reader.specs.BodyReaderLaws.{BodyWent-leads}
 use Rattle.body_reader.specs.Coding.{Agree, heeded}
@@ -9,7 +9,8 @@ use Rattle.body_reader.specs.declared.either.Side.TheVariants as side
 use Rattle.body_reader.specs.declared.error.BodyError.TheVariants as unread
 use Rattle.codec.specs.declared.NextError.TheVariants as why
 use Rattle.messages.specs.declared.error.BodyError.{BodyError}
-use Rattle.requests.specs.declared.taking.Untaken.TheVariants.{Body}
+use Rattle.requests.specs.Answers.{WhyUntaken}
+use Rattle.requests.specs.declared.taking.Untaken.TheVariants.{Body, Large, Unsent}
 
 -- no fault was met, or one
 pub none_met : {a b : List Error} → b ≡ a → OnlyInterrupts a b
@@ -140,6 +141,18 @@ module _ {S : Type 0} {s m : Unbuffered S} {before : ℕ} (steady : ReadsSteadil
       few = few;
     };
   }
+
+-- why a body isn't taken from here on is so of what was met since
+pub WhyUntaken-after : {S : Type 0} {s m : Unbuffered S} {row : ℕ} {Fails Fails' : Error → Type 0} → ReadsSteadily row s m
+    → (e : Untaken) → (b : InBody S) → ((fault : Error) → e ≡ Body (Io fault) → Fails fault → Fails' fault)
+    → WhyUntaken Fails m e b → WhyUntaken Fails' s e b
+WhyUntaken-after steady (Body (Io e)) b so fails = so e refl fails
+WhyUntaken-after steady (Body (Wrong why)) b so (met, torn) =
+    (joined steady (stream_in b) met, subst (λ n. IsToBeRefused n (Inside b) BadRequest) steady.ends torn)
+WhyUntaken-after steady (Body (Truncated due)) b so (met, torn) =
+    (joined steady (stream_in b) met, subst (λ n. IsToBeRefused n (Inside b) BadRequest) steady.ends torn)
+WhyUntaken-after steady Large b so (met, large) = (joined steady (stream_in b) met, large)
+WhyUntaken-after steady (Unsent e) b so met = joined steady (stream_in b) met
 
 pub steadily : {S : Type 0} {s m t : Unbuffered S} → ReadsSteadily 0 s m → ReadsSteadily 0 m t → ReadsSteadily 0 s t
 steadily first then = steady_on first then (omega (arith, first.asks.few, then.asks.few))

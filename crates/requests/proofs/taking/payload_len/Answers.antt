@@ -9,7 +9,7 @@ use Rattle.codec.specs.AskedAgain.{InARow}
 use Rattle.requests.specs.declared.taking.Untaken.TheVariants.{Body, Large, Unsent}
 use Rattle.requests.proofs.Interrupted.{again, body_came, body_none, calm, row_on}
 use Rattle.requests.proofs.Large.{awaited, few_counted, few_taken, newly_large, tested}
-use Rattle.requests.proofs.Reading.{AsksFew-after, AsksFew-upto, failed_behind, inside_went, joined, steady_same}
+use Rattle.requests.proofs.Reading.{AsksFew-after, AsksFew-upto, failed_behind, inside_went, steady_same, WhyUntaken-after}
 use Rattle.requests.proofs.Sending.{Prompt-held, Prompt-none, Prompt-on}
 use Rattle.requests.proofs.taking.payload_len.Goals as goal
 
@@ -51,27 +51,6 @@ asks_on {b = b} {m = m} {t = t} {w = w} {u = u} {v = v} sending enters goes many
 same_extent : {R : Type 0} {remaining : R → Option (List ℕ)} {b m : InBody R} {h : List ℕ} {said : ParsedHead}
     → said ≡ b.said → InsideGoes remaining b h m → said.extent ≡ m.said.extent
 same_extent same goes = ap (λ x. x.extent) (same ∙ sym goes.said)
-
--- why one read failed is why the body isn't taken
-fails_on : {S : Type 0} {tells : S → StreamLog} {s m : Unbuffered S} {row : ℕ} → ReadsSteadily row s m → row ≤ 64 → (e : Untaken)
-    → (b : InBody S) → ((fault : Error) → e ≡ Body (Io fault) → FailsOnce m fault b → IsInterrupt fault
-    → FailsInRow tells 65 s (stream_in b)) → OneReadFails m e b → TakeFails tells s e b
-fails_on {s = s} {m = m} steady most (Body (Io e)) b row (few, once) = (
-  AsksFew-after steady few (omega (arith, most)),
-  (failed_behind (faults_of s) (faults_of m) (faults_of (stream_in b)) e steady.faults once.fault, row e refl once),
-)
-fails_on steady most (Body (Wrong why)) b row (few, (met, torn)) = (
-  AsksFew-after steady few (omega (arith, most)),
-  (joined steady (stream_in b) met, subst (λ n. IsToBeRefused n (Inside b) BadRequest) steady.ends torn),
-)
-fails_on steady most (Body (Truncated due)) b row (few, (met, torn)) = (
-  AsksFew-after steady few (omega (arith, most)),
-  (joined steady (stream_in b) met, subst (λ n. IsToBeRefused n (Inside b) BadRequest) steady.ends torn),
-)
-fails_on steady most Large b row (few, (met, large)) =
-    (AsksFew-after steady few (omega (arith, most)), (joined steady (stream_in b) met, large))
-fails_on steady most (Unsent e) b row (few, met) =
-    (AsksFew-after steady few (omega (arith, most)), joined steady (stream_in b) met)
 
 -- a read handed out no more than fits
 bounded : (count row had has after most : ℕ) (answer : Result ℕ Untaken)
@@ -314,12 +293,17 @@ returns-in-Err-clause-fails g c =
     sym c.get_ref.ensures.log ∙ ap g.R.Tell.log c.get_ref.ensures.inner in
     let goes = subst (λ a. InsideGoes g.R.TellRead.remaining m (handed_out c.read_on-answer.new.out a) t) ends.0
     c.read_on-answer.ensures.goes in
-    fails_on before.reads before.most c.in-Err.e t (λ e same once interrupted.
-    row_on before.reads (omega (arith, ap length once.fault, length-append (faults_of (stream_in m)) (e ∷ [])))
-    (ends.1 e same interrupted) before.rows told (λ some less.
-    body_none goes (before.none some).0 once.none c.taken-had.ensures c.taken-in-reads.ensures
-    (omega (arith, few_taken c.reads.len c.requires.enters before.goes small)) less))
-    (subst (λ a. IfErr a (λ why. OneReadFails (stream_in m) why t)) ends.0 c.read_on-answer.ensures.fails)
+    let failed = subst (λ a. IfErr a (λ why. OneReadFails (stream_in m) why t)) ends.0 c.read_on-answer.ensures.fails in (
+      AsksFew-after before.reads failed.0 (omega (arith, before.most)),
+      WhyUntaken-after before.reads c.in-Err.e t (λ e same once. (
+        failed_behind (faults_of (stream_in c.args.body.now)) (faults_of (stream_in m)) (faults_of (stream_in t)) e
+            before.reads.faults once.fault,
+        λ interrupted. row_on before.reads
+            (omega (arith, ap length once.fault, length-append (faults_of (stream_in m)) (e ∷ []))) (ends.1 e same interrupted)
+            before.rows told (λ some less. body_none goes (before.none some).0 once.none c.taken-had.ensures
+            c.taken-in-reads.ensures (omega (arith, few_taken c.reads.len c.requires.enters before.goes small)) less),
+      )) failed.1,
+    )
 
 pub returns-in-Err-clause-writes : goal.returns-in-Err-clause-writes
 returns-in-Err-clause-writes g c =

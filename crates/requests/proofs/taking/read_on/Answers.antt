@@ -1,10 +1,10 @@
 -- The stream is asked only where nothing buffered is payload, and what was held was sent then.
-use Rattle.std.proofs.Common.{◌≡◌, ◌∙◌, ℕ, [], ◌∷◌, ◌++◌, take, Option, List, Result, Ok, Err, OnOk, IfOk, IfErr, ap, arith, inl, inr, subst, sym}
+use Rattle.std.proofs.Common.{◌≡◌, ◌∙◌, ℕ, [], ◌∷◌, ◌++◌, take, Option, List, Ok, Err, ap, arith, inl, inr, subst, sym}
+use Rattle.std.proofs.lemmas.Result.{IfErr-weaker, IfOk-weaker}
 use Rattle.body_reader.specs.Between.{handed_out}
-use Rattle.requests.proofs.Names.{AwaitsMore, BadRequest, body_rules, InBody, Inside, InsideGoes, InsideGoes-joins, Io, IsToBeRefused, Prompt, OneReadFails, ReadsSome, stream_in, TookWholeBody, Truncated, Unbuffered, Untaken, Wrong}
-use Rattle.requests.specs.declared.taking.Untaken.TheVariants.{Body, Large, Unsent}
+use Rattle.requests.proofs.Names.{AwaitsMore, body_rules, InBody, InsideGoes, InsideGoes-joins, Prompt, OneReadFails, ReadsSome, stream_in, TookWholeBody, Unbuffered, Untaken}
 use Rattle.requests.proofs.Coming.{comes_inside, unsent_empty}
-use Rattle.requests.proofs.Reading.{AsksFew-after, AsksFew-upto, inside_went, joined, steadily, steady_same}
+use Rattle.requests.proofs.Reading.{AsksFew-after, AsksFew-upto, inside_went, steadily, steady_same, WhyUntaken-after}
 use Rattle.requests.proofs.Sending.{Prompt-read}
 use Rattle.requests.proofs.taking.read_on.Goals as goal
 
@@ -13,54 +13,18 @@ read_none : {R : Type 0} {remaining : R → Option (List ℕ)} {b m : InBody R} 
 read_none {R} {remaining} {b} {m} out none goes =
     subst (λ l. InsideGoes remaining b l m) (ap (λ n. take n out) none) goes
 
--- a read says the same of a stream that tells the same
-module _ {S : Type 0} (s m : Unbuffered S) (same : m.log ≡ s.log) where
-  reads_from : (answer : Result ℕ Untaken) (b : InBody S) → IfOk answer (λ n. ReadsSome m n b)
-      → IfOk answer (λ n. ReadsSome s n b)
-  reads_from (Ok n) b r = record {
-    steady = steadily (steady_same s m same) r.steady;
-    same = r.same ∙ ap (λ l. l.reads.faults) same;
-    more = r.more;
-  }
-  reads_from (Err e) b r = tt
-
-  why_from : (e : Untaken) (b : InBody S) → OneReadFails m e b → OneReadFails s e b
-  why_from (Body (Io e)) b (few, once) = (
-    AsksFew-after (steady_same s m same) few (omega arith),
-    record {
-      fault = once.fault ∙ ap (λ l. l.reads.faults ++ e ∷ []) same;
-      ends = once.ends ∙ ap (λ l. l.reads.zero_reads) same;
-      none = once.none;
-      goes_on = once.goes_on;
-    },
-  )
-  why_from (Body (Wrong why)) b (few, (met, torn)) = (
-    AsksFew-after (steady_same s m same) few (omega arith),
-    (
-      joined (steady_same s m same) (stream_in b) met,
-      subst (λ n. IsToBeRefused n (Inside b) BadRequest) (ap (λ l. l.reads.zero_reads) same) torn,
-    ),
-  )
-  why_from (Body (Truncated due)) b (few, (met, torn)) = (
-    AsksFew-after (steady_same s m same) few (omega arith),
-    (
-      joined (steady_same s m same) (stream_in b) met,
-      subst (λ n. IsToBeRefused n (Inside b) BadRequest) (ap (λ l. l.reads.zero_reads) same) torn,
-    ),
-  )
-  why_from Large b (few, (met, large)) =
-      (AsksFew-after (steady_same s m same) few (omega arith), (joined (steady_same s m same) (stream_in b) met, large))
-  why_from (Unsent e) b (few, met) =
-      (AsksFew-after (steady_same s m same) few (omega arith), joined (steady_same s m same) (stream_in b) met)
-
-  fails_from : (answer : Result ℕ Untaken) (b : InBody S) → IfErr answer (λ e. OneReadFails m e b)
-      → IfErr answer (λ e. OneReadFails s e b)
-  fails_from (Ok n) b fails = tt
-  fails_from (Err e) b fails = why_from e b fails
-
-asks_from : {P : Type 0} (answer : Result ℕ Untaken) → P → OnOk answer P
-asks_from (Ok n) is = is
-asks_from (Err e) is = tt
+-- why one read failed it did so of a stream that told the same
+why_from : {S : Type 0} (s m : Unbuffered S) → m.log ≡ s.log → (e : Untaken) (b : InBody S) → OneReadFails m e b
+    → OneReadFails s e b
+why_from s m same e b (few, why) = (
+  AsksFew-after (steady_same s m same) few (omega arith),
+  WhyUntaken-after (steady_same s m same) e b (λ fault is once. record {
+    fault = once.fault ∙ ap (λ l. l.reads.faults ++ fault ∷ []) same;
+    ends = once.ends ∙ ap (λ l. l.reads.zero_reads) same;
+    none = once.none;
+    goes_on = once.goes_on;
+  }) why,
+)
 
 pub returns-then-count-gt0-clause-writes : goal.returns-then-count-gt0-clause-writes
 returns-then-count-gt0-clause-writes g c =
@@ -95,16 +59,20 @@ returns-in-Ok g c =
       bound = read.bound;
       noted = read.noted;
       goes = InsideGoes-joins g.R.TellRead.remaining b m t [] (handed_out c.read.new.out c.read.result) goes read.goes;
-      reads = reads_from (stream_in b) (stream_in m) none.unasked c.read.result t read.reads;
-      fails = fails_from (stream_in b) (stream_in m) none.unasked c.read.result t read.fails;
-      asks = asks_from c.read.result (λ empty goes_on.
+      reads = IfOk-weaker c.read.result _ _ (λ n r. record {
+        steady = steadily (steady_same (stream_in b) (stream_in m) none.unasked) r.steady;
+        same = r.same ∙ ap (λ l. l.reads.faults) none.unasked;
+        more = r.more;
+      }) read.reads;
+      fails = IfErr-weaker c.read.result _ _ (λ e. why_from (stream_in b) (stream_in m) none.unasked e t) read.fails;
+      asks = IfOk-weaker c.read.result _ _ (λ n some empty goes_on.
           (let there = none.idle empty in
           omega (
             arith,
             read.asks (ap (λ x. (stream_in x).left) there.1 ∙ empty)
                 (subst (λ x. ¬ (TookWholeBody (body_rules x.body.coding) x.body)) (sym there.1) goes_on),
             ap (λ l. l.reads.asks) none.unasked,
-          )));
+          ))) read.reads;
       writes = subst (λ r. Prompt g.W.Tell.log g.W.TellWrite.trace (AwaitsMore b) (stream_in b, c.args.writer.now) r
           (stream_in t, c.send_unless_shown.new.writer))
           (sym read.sent) comes;
