@@ -12,6 +12,7 @@ use Rattle.requests.proofs.Large.{awaited, few_counted, few_taken, newly_large, 
 use Rattle.requests.proofs.Reading.{AsksFew-after, AsksFew-upto, failed_behind, inside_went, steady_same, WhyUntaken-after}
 use Rattle.requests.proofs.Sending.{Prompt-held, Prompt-none, Prompt-on}
 use Rattle.requests.proofs.taking.payload_len.Goals as goal
+use Rattle.requests.proofs.taking.payload_len.Goals.{After-taken-in-reads}
 
 -- one read more
 many_on : {R : Type 0} {remaining : R → Option (List ℕ)} {m t : InBody R} {len : ℕ} (out : List ℕ) (count : ℕ)
@@ -64,6 +65,29 @@ shrinks : (x y row more : ℕ) → (y < x) ⊎ ((y ≤ x) × (row < more)) → r
     → y * 65 + (64 - more) < x * 65 + (64 - row)
 shrinks x y row more (inl less) few most = omega (arith, less, few, most)
 shrinks x y row more (inr (still, up)) few most = omega (arith, still, up, few, most)
+
+-- what was taken so far isn't too large
+small : (g : _) (c : After-taken-in-reads g)
+    → is_large c.reads.body.said.extent (length c.reads.body.body.taken) c.reads.len ≡ false
+small g c = tested _ _ _ _ c.reads.body.body.taken _ c.is_large.ensures
+    (same_extent c.said-extent.ensures.value c.reads.invariant.goes) c.taken.ensures ∙ c.if-is_large.false
+
+-- where a read failed, one fault more was met
+one_fault : (g : _) (c : After-taken-in-reads g) (e : Error)
+    → FailsOnce (stream_in c.reads.body) e c.read_on-answer.new.body
+    → length (faults_of (stream_in c.read_on-answer.new.body)) ≡ length (faults_of (stream_in c.reads.body)) + 1
+one_fault g c e once = omega (arith, ap length once.fault, length-append (faults_of (stream_in c.reads.body)) (e ∷ []))
+
+-- and it is one more of its row
+one_more : (g : _) (c : After-taken-in-reads g) (e : Error) → FailsOnce (stream_in c.reads.body) e c.read_on-answer.new.body
+    → InsideGoes g.R.TellRead.remaining c.reads.body [] c.read_on-answer.new.body → {more : ℕ}
+    → InARow c.reads.row c.taken-had.result c.taken-in-reads.result more
+    → FailsInRow g.R.Tell.log more (stream_in c.args.body.now) (stream_in c.read_on-answer.new.body)
+one_more g c e once goes row =
+    let before = c.reads.invariant in
+    row_on before.reads (one_fault g c e once) row before.rows (sym c.get_ref.ensures.log ∙ ap g.R.Tell.log c.get_ref.ensures.inner) (λ some less.
+    body_none goes (before.none some).0 once.none c.taken-had.ensures c.taken-in-reads.ensures
+    (omega (arith, few_taken c.reads.len c.requires.enters before.goes (small g c))) less)
 
 pub reads-init : goal.reads-init
 reads-init g c =
@@ -161,113 +185,84 @@ module _ {R : Type 0} {remaining : R → Option (List ℕ)} {b m t : InBody R} {
         ]
 
 pub overflow_add-len : goal.overflow_add-len
-overflow_add-len g c =
-    let before = c.reads.invariant in
-    let m = c.reads.body in
-    let small = tested _ _ _ _ m.body.taken _ c.is_large.ensures (same_extent c.said-extent.ensures.value before.goes)
-    c.taken.ensures ∙ c.if-is_large.false in
-    omega (
-      arith,
-      few_counted m.said.extent (length m.body.taken) c.reads.len small,
-      bounded _ _ _ _ _ _ _ c.in-Ok.ensures.goes_on c.read_on-answer.ensures.bound,
-      c.read_on-answer.auto.out,
-    )
+overflow_add-len g c = omega (
+  arith,
+  few_counted c.reads.body.said.extent (length c.reads.body.body.taken) c.reads.len
+      (small g (goal.at.overflow_add-len g c).After-taken-in-reads),
+  bounded _ _ _ _ _ _ _ c.in-Ok.ensures.goes_on c.read_on-answer.ensures.bound,
+  c.read_on-answer.auto.out,
+)
 
 pub reads-preserved : goal.reads-preserved
 reads-preserved g c =
+    let at = (goal.at.reads-preserved g c).After-taken-in-reads in
     let before = c.reads.invariant in
     let b = c.args.body.now in
     let m = c.reads.body in
     let t = c.read_on-answer.new.body in
     let out = c.read_on-answer.new.out in
-    let read = c.read_on-answer.ensures in
-    let v = c.read_on-answer.new.writer in
-    let open' : ¬ (TookWholeBody (body_rules m.body.coding) m.body) =
-    λ done. let odd = c.is_done.ensures.ended.1 done in absurd (cc) in
-    let small = tested _ _ _ _ m.body.taken _ c.is_large.ensures (same_extent c.said-extent.ensures.value before.goes)
-    c.taken.ensures ∙ c.if-is_large.false in
-    let counted = subst (λ n. is_large m.said.extent (length m.body.taken) n ≡ false) before.many small in
-    let told : (stream_in t).log ≡ g.R.Tell.log (stream_in t).inner =
-    sym c.get_ref.ensures.log ∙ ap g.R.Tell.log c.get_ref.ensures.inner in
+    let counted = subst (λ n. is_large m.said.extent (length m.body.taken) n ≡ false) before.many (small g at) in
     elim c.in-Ok.ensures.goes_on [
       | inl (is, ends) ↦
-          (let goes = subst (λ a. InsideGoes g.R.TellRead.remaining m (handed_out out a) t) is read.goes in
-          let some = subst (λ a. IfOk a (λ n. ReadsSome (stream_in m) n t)) is read.reads in
-          let asks = subst (λ a. OnOk a ((stream_in m).left ≡ [] → ¬ (TookWholeBody (body_rules m.body.coding) m.body)
-          → (stream_in m).log.reads.asks < (stream_in t).log.reads.asks)) is read.asks in
-          let writes = subst (λ a. Prompt g.W.Tell.log g.W.TellWrite.trace (AwaitsMore m) (stream_in m, c.reads.writer)
-          (sent_with a) (stream_in t, v)) is read.writes in
-          let bound = subst (λ a. IfOk a (λ n. n ≤ length out)) is read.bound in
+          (let read = rw is at c.read_on-answer.ensures in
           record {
             payload = before.payload ++ take c.in-Ok.count out;
-            goes = InsideGoes-joins g.R.TellRead.remaining b m t before.payload (take c.in-Ok.count out) before.goes goes;
-            many = many_on out c.in-Ok.count before.many bound goes;
+            goes = InsideGoes-joins g.R.TellRead.remaining b m t before.payload (take c.in-Ok.count out) before.goes read.goes;
+            many = many_on out c.in-Ok.count before.many read.bound read.goes;
             reads = subst (λ n. ReadsSteadily n (stream_in b) (stream_in t)) (sym ends)
-                (calm before.reads before.most some.steady some.same (λ pos.
+                (calm before.reads before.most read.reads.steady read.reads.same (λ pos.
                 (let there = before.none pos in
-                omega (arith, asks there.0 there.1, some.steady.asks.told, some.steady.ends, ap length some.same))));
+                let steady = read.reads.steady in
+                omega (arith, read.asks there.0 there.1, steady.asks.told, steady.ends, ap length read.reads.same))));
             rows = λ pos. absurd (omega (arith, pos, ends));
             most = omega (arith, ends);
             none = λ pos. absurd (omega (arith, pos, ends));
-            fresh = newly_large before.goes.whole goes (latest_of c.in-Ok.count out bound
-                (omega (arith, bound, c.read_on-answer.auto.out))
-                (subst (λ a. IfOk a (λ n. 0 < n → t.body.calls.reads.latest ≡ take n out)) is read.noted)) counted;
-            writes = asks_on (Ok tt) c.requires.enters before.goes before.many small before.writes writes;
-            held = Prompt-held (Ok tt) writes before.held;
+            fresh = newly_large before.goes.whole read.goes (latest_of c.in-Ok.count out read.bound
+                (omega (arith, read.bound, c.read_on-answer.auto.out)) read.noted) counted;
+            writes = asks_on (Ok tt) c.requires.enters before.goes before.many (small g at) before.writes read.writes;
+            held = Prompt-held (Ok tt) read.writes before.held;
           })
       | inr (none, few, row, e, is, interrupted) ↦
-          (let goes = subst (λ a. InsideGoes g.R.TellRead.remaining m (handed_out out a) t) is read.goes in
-          let fails = subst (λ a. IfErr a (λ why. OneReadFails (stream_in m) why t)) is read.fails in
-          let once = fails.1 in
-          let writes = subst (λ a. Prompt g.W.Tell.log g.W.TellWrite.trace (AwaitsMore m) (stream_in m, c.reads.writer)
-          (sent_with a) (stream_in t, v)) is read.writes in
-          let fault : length (faults_of (stream_in t)) ≡ length (faults_of (stream_in m)) + 1 =
-          omega (arith, ap length once.fault, length-append (faults_of (stream_in m)) (e ∷ [])) in
-          let one : ReadsSteadily 1 (stream_in m) (stream_in t) = record {
-            faults = OnlyInterrupts-one (faults_of (stream_in m)) (faults_of (stream_in t)) e interrupted once.fault;
-            ends = once.ends;
-            asks = fails.0;
-          } in
+          (let read = rw is at c.read_on-answer.ensures in
+          let once = read.fails.1 in
           record {
             payload = before.payload ++ [];
-            goes = InsideGoes-joins g.R.TellRead.remaining b m t before.payload [] before.goes goes;
-            many = omega (arith, before.many, none, ap length goes.went.handed, length-append (handed_of m.body) []);
-            reads = again before.reads fault row before.most one (λ pos more.
-                body_came goes (before.none pos).0 once.none c.taken-had.ensures c.taken-in-reads.ensures more);
-            rows = λ pos. row_on before.reads fault row before.rows told (λ some less.
-                body_none goes (before.none some).0 once.none c.taken-had.ensures c.taken-in-reads.ensures
-                (omega (arith, few_taken c.reads.len c.requires.enters before.goes small)) less);
+            goes = InsideGoes-joins g.R.TellRead.remaining b m t before.payload [] before.goes read.goes;
+            many = omega (arith, before.many, none, ap length read.goes.went.handed, length-append (handed_of m.body) []);
+            reads = again before.reads (one_fault g at e once) row before.most (record {
+              faults = OnlyInterrupts-one (faults_of (stream_in m)) (faults_of (stream_in t)) e interrupted once.fault;
+              ends = once.ends;
+              asks = read.fails.0;
+            }) (λ pos more.
+                body_came read.goes (before.none pos).0 once.none c.taken-had.ensures c.taken-in-reads.ensures more);
+            rows = λ pos. one_more g at e once read.goes row;
             most = few;
             none = λ pos. (once.none, once.goes_on);
-            fresh = newly_large before.goes.whole goes (inl refl) counted;
-            writes = asks_on (Ok tt) c.requires.enters before.goes before.many small before.writes writes;
-            held = Prompt-held (Ok tt) writes before.held;
+            fresh = newly_large before.goes.whole read.goes (inl refl) counted;
+            writes = asks_on (Ok tt) c.requires.enters before.goes before.many (small g at) before.writes read.writes;
+            held = Prompt-held (Ok tt) read.writes before.held;
           })
     ]
 
 pub reads-smaller : goal.reads-smaller
 reads-smaller g c =
+    let at = (goal.at.reads-smaller g c).After-taken-in-reads in
     let before = c.reads.invariant in
     let m = c.reads.body in
-    let t = c.read_on-answer.new.body in
     let out = c.read_on-answer.new.out in
-    let read = c.read_on-answer.ensures in
     let open' : ¬ (TookWholeBody (body_rules m.body.coding) m.body) =
     λ done. let odd = c.is_done.ensures.ended.1 done in absurd (cc) in
-    let small = tested _ _ _ _ m.body.taken _ c.is_large.ensures (same_extent c.said-extent.ensures.value before.goes)
-    c.taken.ensures ∙ c.if-is_large.false in
-    let few_now = few_taken c.reads.len c.requires.enters before.goes small in
     elim c.in-Ok.ensures.goes_on [
       | inl (is, ends) ↦
-          (let goes = subst (λ a. InsideGoes g.R.TellRead.remaining m (handed_out out a) t) is read.goes in
-          let some = subst (λ a. IfOk a (λ n. ReadsSome (stream_in m) n t)) is read.reads in
-          let bound = subst (λ a. IfOk a (λ n. n ≤ length out)) is read.bound in
-          shrinks _ _ c.reads.row c.in-Ok.with (inl (less_left c.requires.enters before.goes before.many small
-          open' out (omega (arith, bound, c.read_on-answer.auto.out)) goes some.more)) before.most (omega (arith, ends)))
+          (let read = rw is at c.read_on-answer.ensures in
+          shrinks _ _ c.reads.row c.in-Ok.with (inl (less_left c.requires.enters before.goes before.many (small g at)
+          open' out (omega (arith, read.bound, c.read_on-answer.auto.out)) read.goes read.reads.more)) before.most
+          (omega (arith, ends)))
       | inr (none, few, row, e, is, interrupted) ↦
-          (let goes = subst (λ a. InsideGoes g.R.TellRead.remaining m (handed_out out a) t) is read.goes in
-          let grows = length-append m.body.taken goes.went.wire in
-          let more = ap length goes.went.taken in
+          (let read = rw is at c.read_on-answer.ensures in
+          let grows = length-append m.body.taken read.goes.went.wire in
+          let more = ap length read.goes.went.taken in
+          let few_now = few_taken c.reads.len c.requires.enters before.goes (small g at) in
           shrinks _ _ c.reads.row c.in-Ok.with (elim row [
             | inl on ↦ inr (omega (arith, none, grows, more), omega (arith, on.1))
             | inr anew ↦ inl (omega (arith, none, few_now, c.taken-had.ensures, c.taken-in-reads.ensures, anew.0))
@@ -277,43 +272,29 @@ reads-smaller g c =
 pub returns-in-Err-clause-goes : goal.returns-in-Err-clause-goes
 returns-in-Err-clause-goes g c =
     let before = c.reads.invariant in
-    let goes = subst (λ a. InsideGoes g.R.TellRead.remaining c.reads.body (handed_out c.read_on-answer.new.out a)
-    c.read_on-answer.new.body) c.in-Err.ensures.ends.0 c.read_on-answer.ensures.goes in
-    (before.payload ++ [], InsideGoes-joins _ _ _ _ before.payload [] before.goes goes)
+    let read = rw c.in-Err.ensures.ends.0 at c.read_on-answer.ensures in
+    (before.payload ++ [], InsideGoes-joins _ _ _ _ before.payload [] before.goes read.goes)
 
 pub returns-in-Err-clause-fails : goal.returns-in-Err-clause-fails
 returns-in-Err-clause-fails g c =
     let before = c.reads.invariant in
-    let m = c.reads.body in
-    let t = c.read_on-answer.new.body in
     let ends = c.in-Err.ensures.ends in
-    let small = tested _ _ _ _ m.body.taken _ c.is_large.ensures (same_extent c.said-extent.ensures.value before.goes)
-    c.taken.ensures ∙ c.if-is_large.false in
-    let told : (stream_in t).log ≡ g.R.Tell.log (stream_in t).inner =
-    sym c.get_ref.ensures.log ∙ ap g.R.Tell.log c.get_ref.ensures.inner in
-    let goes = subst (λ a. InsideGoes g.R.TellRead.remaining m (handed_out c.read_on-answer.new.out a) t) ends.0
-    c.read_on-answer.ensures.goes in
-    let failed = subst (λ a. IfErr a (λ why. OneReadFails (stream_in m) why t)) ends.0 c.read_on-answer.ensures.fails in (
-      AsksFew-after before.reads failed.0 (omega (arith, before.most)),
-      WhyUntaken-after before.reads c.in-Err.e t (λ e same once. (
-        failed_behind (faults_of (stream_in c.args.body.now)) (faults_of (stream_in m)) (faults_of (stream_in t)) e
-            before.reads.faults once.fault,
-        λ interrupted. row_on before.reads
-            (omega (arith, ap length once.fault, length-append (faults_of (stream_in m)) (e ∷ []))) (ends.1 e same interrupted)
-            before.rows told (λ some less. body_none goes (before.none some).0 once.none c.taken-had.ensures
-            c.taken-in-reads.ensures (omega (arith, few_taken c.reads.len c.requires.enters before.goes small)) less),
-      )) failed.1,
+    let read = rw ends.0 at c.read_on-answer.ensures in (
+      AsksFew-after before.reads read.fails.0 (omega (arith, before.most)),
+      WhyUntaken-after before.reads c.in-Err.e c.read_on-answer.new.body (λ e same once. (
+        failed_behind (faults_of (stream_in c.args.body.now)) (faults_of (stream_in c.reads.body)) _ e before.reads.faults
+            once.fault,
+        λ interrupted. one_more g (goal.at.returns-in-Err-clause-fails g c).After-taken-in-reads e once read.goes
+            (ends.1 e same interrupted),
+      )) read.fails.1,
     )
 
 pub returns-in-Err-clause-writes : goal.returns-in-Err-clause-writes
 returns-in-Err-clause-writes g c =
     let before = c.reads.invariant in
-    let m = c.reads.body in
-    let small = tested _ _ _ _ m.body.taken _ c.is_large.ensures (same_extent c.said-extent.ensures.value before.goes)
-    c.taken.ensures ∙ c.if-is_large.false in
-    asks_on (sent_till c.in-Err.e) c.requires.enters before.goes before.many small before.writes
-    (subst (λ a. Prompt g.W.Tell.log g.W.TellWrite.trace (AwaitsMore m) (stream_in m, c.reads.writer) (sent_with a)
-    (stream_in c.read_on-answer.new.body, c.read_on-answer.new.writer)) c.in-Err.ensures.ends.0 c.read_on-answer.ensures.writes)
+    let read = rw c.in-Err.ensures.ends.0 at c.read_on-answer.ensures in
+    asks_on (sent_till c.in-Err.e) c.requires.enters before.goes before.many
+    (small g (goal.at.returns-in-Err-clause-writes g c).After-taken-in-reads) before.writes read.writes
 
 pub read_on-answer-requires-clause-whole : goal.read_on-answer-requires-clause-whole
 read_on-answer-requires-clause-whole g c = c.reads.invariant.goes.whole
