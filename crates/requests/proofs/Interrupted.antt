@@ -2,7 +2,7 @@
 use Rattle.std.proofs.Common.{◌≡◌, ℕ, ◌+◌, ◌-◌, ◌*◌, ◌^◌, ◌<◌, ◌≤◌, List, [], ◌++◌, length, min, Option, Ok, Some, ap, append-nil, arith, inl, inr, length-append, refl, sym, true, false, ◌∙◌}
 use Rattle.codec.specs.AskedAgain.{InARow}
 use Rattle.redux_buffer.specs.Faults.{interrupt_limit}
-use Rattle.requests.proofs.Names.{Begun, cases_lt, FailsInRow, faults_of, Heads, heads, InBody, InsideGoes, IsOpen, left_of, max_payload, nil_from_length, NoEnd, ReaderState, ReadsSteadily, rest, stream_in, StreamLog, Unbuffered, usual}
+use Rattle.requests.proofs.Names.{Begun, cases_lt, FailsInRow, faults_of, HandsOutInOrder, Heads, heads, InBody, InsideGoes, IsOpen, left_of, max_payload, nil_from_length, NoEnd, ReaderState, ReadsSteadily, rest, stream_in, StreamLog, Unbuffered, usual}
 use Rattle.requests.proofs.Coming.{asks_where, usually}
 use Rattle.requests.proofs.Reading.{inside_went, no_shorter, steady_on}
 
@@ -65,42 +65,43 @@ head_came {m = m} {b = b} limits going open' begun =
     ]) in
     omega (arith, asked.some, next.gave ends next.answers.0, ap (λ u. length u.log.reads.given) begun.stream)
 
+-- bytes came just where more than was left is so now, or was handed out
+module _ {S : Type 0} {s t : Unbuffered S} {bytes : List ℕ} (order : HandsOutInOrder s bytes t) where
+  pub came : length bytes + length t.left ≡ length s.left + length order.got
+  came = omega (arith, ap length order.equal, length-append bytes t.left, length-append s.left order.got)
+
+  pub none_came : length bytes + length t.left ≤ length s.left → t.log.reads.given ≡ s.log.reads.given
+  none_came less =
+      let no : order.got ≡ [] = nil_from_length order.got (omega (arith, less, came)) in
+      order.given ∙ ap (λ l. s.log.reads.given ++ l) no ∙ append-nil s.log.reads.given
+
+  pub some_came : length s.left < length bytes + length t.left → length s.log.reads.given < length t.log.reads.given
+  some_came more = omega (arith, more, came, ap length order.given, length-append s.log.reads.given order.got)
+
 -- by a read that was interrupted, where nothing was buffered before or behind it, just that came which was taken
 module _ {S : Type 0} {remaining : S → Option (List ℕ)} {m t : InBody S} {handed : List ℕ}
-    (goes : InsideGoes remaining m handed t)
-    (none : (stream_in m).left ≡ []) (empty : (stream_in t).left ≡ []) where
-  came_taken : length t.body.taken ≡ length m.body.taken + length (inside_went goes).order.got
-  came_taken =
-      let order = (inside_went goes).order in
-      omega (
-        arith,
-        ap length goes.went.taken,
-        length-append m.body.taken goes.went.wire,
-        ap length order.equal,
-        length-append goes.went.wire (stream_in t).left,
-        length-append (stream_in m).left order.got,
-        ap length none,
-        ap length empty,
-      )
+    (goes : InsideGoes remaining m handed t) (none : (stream_in m).left ≡ []) (empty : (stream_in t).left ≡ []) {had has : ℕ}
+    (was : had ≡ min (length m.body.taken) (2 ^ 64 - 1)) (is : has ≡ min (length t.body.taken) (2 ^ 64 - 1)) where
+  pub body_came : had < has → length (stream_in m).log.reads.given < length (stream_in t).log.reads.given
+  body_came more = some_came (inside_went goes).order (omega (
+    arith,
+    was,
+    is,
+    more,
+    ap length none,
+    ap length goes.went.taken,
+    length-append m.body.taken goes.went.wire,
+  ))
 
-  module _ {had has : ℕ} (was : had ≡ min (length m.body.taken) (2 ^ 64 - 1)) (is : has ≡ min (length t.body.taken) (2 ^ 64 - 1))
-    where
-      pub body_came : had < has → length (stream_in m).log.reads.given < length (stream_in t).log.reads.given
-      body_came more =
-          let order = (inside_went goes).order in
-          omega (
-            arith,
-            came_taken,
-            was,
-            is,
-            more,
-            ap length order.given,
-            length-append (stream_in m).log.reads.given order.got,
-          )
-
-      pub body_none : length m.body.taken ≤ 8 * max_payload → has ≤ had
-          → (stream_in t).log.reads.given ≡ (stream_in m).log.reads.given
-      body_none few less =
-          let order = (inside_went goes).order in
-          let no : order.got ≡ [] = nil_from_length order.got (omega (arith, came_taken, was, is, less, few)) in
-          order.given ∙ ap (λ l. (stream_in m).log.reads.given ++ l) no ∙ append-nil (stream_in m).log.reads.given
+  pub body_none : length m.body.taken ≤ 8 * max_payload → has ≤ had
+      → (stream_in t).log.reads.given ≡ (stream_in m).log.reads.given
+  body_none few less = none_came (inside_went goes).order (omega (
+    arith,
+    was,
+    is,
+    less,
+    few,
+    ap length empty,
+    ap length goes.went.taken,
+    length-append m.body.taken goes.went.wire,
+  ))

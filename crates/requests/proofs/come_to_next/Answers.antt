@@ -1,14 +1,16 @@
 -- Where no head is settled what is held is sent first, so the stream is asked with nothing held; an interrupted read is made
 -- again, and all else that no head came behind ends the run.
 use Rattle.std.proofs.Common.{◌≡◌, ◌∙◌, ◌+◌, ◌<◌, ◌≤◌, ℕ, IsTrue, List, [], ◌∷◌, ◌++◌, true, append-nil, Option, None, Ok, Err, ap, length, subst, sym, inl, inr, refl, arith, length-append}
-use Rattle.requests.proofs.Names.{All-nil, AwaitsHead, BadHead, Before, Begun-went, Buffered, faults_of, Heads, heads, IsSettled, left_of, MayFollow, MetEnd-once, never_cut, NextAnswer, NextPiece, nil_from_length, only_line_ends, OnlyInterrupts-one, Over, Prompt, ReaderState, refusal_of, rest, RunsToLast, same_room, SendsUnless, StdPolicy, stream_in, StreamLog, StreamWent, StreamWent-joins, StreamWent-none, Unbuffered, Unread, Unsent, usual}
+use Rattle.redux_buffer.specs.Faults.{interrupt_limit}
+use Rattle.requests.proofs.Names.{All-nil, AsksFew, AwaitsHead, BadHead, Before, Begun-went, Ending, faults_of, heads, left_of, MayFollow, MetEnd, MetEnd-once, never_cut, NextAnswer, NextPiece, NoFault, only_line_ends, OnlyInterrupts-one, Over, Prompt, refusal_of, rest, RunEndsBy, RunsToLast, same_room, sending_of, stream_in, StreamWent, StreamWent-joins, StreamWent-none, Unread, Unsent, usual}
 use Rattle.requests.proofs.Answering.{RunsToLast-one, RunsToLast-refused}
 use Rattle.requests.proofs.Coming.{comes, open_where, usually}
-use Rattle.requests.proofs.Interrupted.{again, calm, head_came, row_on}
+use Rattle.requests.proofs.Interrupted.{again, calm, came, head_came, none_came, row_on, some_came}
 use Rattle.requests.proofs.Reading.{AsksFew-after, AsksFew-upto, begun_enters, begun_steady, failed_behind, joined, next_few, none_met, nothing_went, steady_same}
 use Rattle.requests.proofs.Sending.{Prompt-held, Prompt-none, Prompt-unsent}
 use Rattle.requests.proofs.Turns.{comes_on}
 use Rattle.requests.proofs.come_to_next.Goals as goal
+use Rattle.requests.proofs.come_to_next.Goals.{In-Err-next}
 
 pub asks-init : goal.asks-init
 asks-init g c = record {
@@ -63,84 +65,67 @@ returns-in-Ok-next-clause-comes g c =
 pub returns-in-Ok-next-clause-room : goal.returns-in-Ok-next-clause-room
 returns-in-Ok-next-clause-room g c = c.in-Ok-next.ensures.next.room ∙ c.asks.invariant.room
 
--- bytes came of a head just where more is left
-module _ {R : Type 0} {remaining : R → Option (List ℕ)} {m t : ReaderState R Heads} {answer : NextAnswer BadHead}
-    (next : NextPiece remaining (heads usual) m answer t) (none : next.bytes ≡ []) where
-  came_left : length (rest t) ≡ length (rest m) + length next.went.hands.got
-  came_left =
-      let order = next.went.hands in
-      omega (
-        arith,
-        ap length order.equal,
-        ap length none,
-        length-append next.bytes (rest t),
-        length-append (rest m) order.got,
-      )
+-- no head came
+module _ (g : _) (c : In-Err-next g) {answer : NextAnswer BadHead}
+    (next : NextPiece g.R.TellRead.remaining (heads usual) c.asks.next answer c.in-Err-next.back) (none : next.bytes ≡ []) where
+  gone : StreamWent g.R.TellRead.remaining (left_of c.args.requests) [] (left_of c.in-Err-next.back)
+  gone = StreamWent-joins g.R.TellRead.remaining (left_of c.args.requests) (left_of c.asks.next) (left_of c.in-Err-next.back) [] []
+      c.asks.invariant.went (nothing_went next none)
 
-  none_came : length (rest t) ≤ length (rest m) → t.reader.log.reads.given ≡ m.reader.log.reads.given
-  none_came less =
-      let order = next.went.hands in
-      let no : order.got ≡ [] = nil_from_length order.got (omega (arith, less, came_left)) in
-      order.given ∙ ap (λ l. m.reader.log.reads.given ++ l) no ∙ append-nil m.reader.log.reads.given
+  asked : Prompt g.W.Tell.log g.W.TellWrite.trace AwaitsHead (left_of c.args.requests, c.args.writer.now) (Ok tt)
+      (left_of c.in-Err-next.back, c.send_to_ask.new.writer)
+  asked = comes_on g.R.TellRead.remaining g.W.Tell.log g.W.TellWrite.trace (left_of c.args.requests, c.args.writer.now)
+      (left_of c.asks.next, c.asks.writer) (left_of c.in-Err-next.back, c.send_to_ask.new.writer) (Ok tt) c.asks.invariant.went
+      c.asks.invariant.comes
+      (comes c.asks.next c.asks.writer c.send_to_ask.new.writer c.in-Ok.ensures answer c.in-Err-next.back next)
 
-  some_came : length (rest m) < length (rest t)
-      → length m.reader.log.reads.given < length t.reader.log.reads.given
-  some_came more =
-      let order = next.went.hands in
-      omega (arith, more, came_left, ap length order.given, length-append m.reader.log.reads.given order.got)
+  few : AsksFew (interrupt_limit + 1) (left_of c.args.requests) (left_of c.in-Err-next.back)
+  few = AsksFew-after c.asks.invariant.reads (next_few answer next c.in-Err-next.ensures.told)
+      (omega (arith, c.asks.invariant.most))
 
--- what was asked for, and sent before that, till there was no head
-module _ {R W : Type 0} {remaining : R → Option (List ℕ)} {tells : W → StreamLog} {trace : W → W → Type 0}
-    {s : Unbuffered R} {w u v : Buffered W StdPolicy} {m t : ReaderState R Heads} {answer : NextAnswer BadHead}
-    (went : StreamWent remaining s [] (left_of m)) (before : Prompt tells trace AwaitsHead (s, w) (Ok tt) (left_of m, u))
-    (sends : SendsUnless tells trace (IsSettled (heads usual) m) u (Ok tt) v)
-    (next : NextPiece remaining (heads usual) m answer t) where
-  asked : Prompt tells trace AwaitsHead (s, w) (Ok tt) (left_of t, v)
-  asked =
-      comes_on remaining tells trace (s, w) (left_of m, u) (left_of t, v) (Ok tt) went before (comes m u v sends answer t next)
+  -- so the run ends
+  abbrev Ran : Ending → Type 0
+  Ran ending = RunsToLast g.R.TellRead.remaining g.W.Tell.log g.W.TellWrite.trace g.R.Tell.log (left_of c.args.requests)
+      c.args.writer.now (Before c.in-Err-next.back) ending c.send_to_ask.new.writer
 
-  gone : next.bytes ≡ [] → StreamWent remaining s [] (left_of t)
-  gone none = StreamWent-joins remaining s (left_of m) (left_of t) [] [] went (nothing_went next none)
+  over : (ending : Ending) → sending_of ending ≡ Ok tt
+      → RunEndsBy g.R.TellRead.remaining g.W.Tell.log g.W.TellWrite.trace g.R.Tell.log (left_of c.args.requests) [] [] None
+      (Before c.in-Err-next.back) ending → Ran ending
+  over ending well =
+      RunsToLast-one [] [] (Before c.in-Err-next.back) (refl, refl) few [] None tt ending (gone, rw well asked)
+
+  over_blank : NoFault c.asks.next c.in-Err-next.back → MetEnd c.asks.next c.in-Err-next.back
+      → IsTrue (only_line_ends (rest c.in-Err-next.back)) → Ran Over
+  over_blank faults met blank = over Over refl (
+    joined c.asks.invariant.reads (left_of c.in-Err-next.back) (none_met faults),
+    inr (
+      All-nil (MayFollow true),
+      inr (
+        omega (
+          arith,
+          MetEnd-once c.asks.next c.in-Err-next.back c.in-Err-next.ensures.told met,
+          c.asks.invariant.reads.ends,
+        ),
+        blank,
+      ),
+    ),
+  )
 
 pub returns-in-Ended-clause-comes : goal.returns-in-Ended-clause-comes
 returns-in-Ended-clause-comes g c =
-    let before = c.asks.invariant in
-    let m = c.asks.next in
-    let t = c.in-Err-next.back in
-    let next = rw c.in-Ended.is at (usually before.limits c.in-Err-next.ensures.next) in
-    let met = MetEnd-once m t c.in-Err-next.ensures.told next.answers.4 in
-    RunsToLast-one [] [] (Before t) (refl, refl)
-    (AsksFew-after before.reads (next_few _ next c.in-Err-next.ensures.told) (omega (arith, before.most))) [] None tt Over
-    (gone before.went before.comes c.in-Ok.ensures next next.answers.0, asked before.went before.comes c.in-Ok.ensures next) (
-      joined before.reads (left_of t) (none_met next.answers.2),
-      inr (
-        All-nil (MayFollow true),
-        inr (omega (arith, met, before.reads.ends), subst (λ l. IsTrue (only_line_ends l)) (sym next.answers.1) refl),
-      ),
-    )
+    let next = rw c.in-Ended.is at (usually c.asks.invariant.limits c.in-Err-next.ensures.next) in
+    over_blank g (goal.at.returns-in-Ended-clause-comes g c).In-Err-next next next.answers.0 next.answers.2 next.answers.4
+    (subst (λ l. IsTrue (only_line_ends l)) (sym next.answers.1) refl)
 
 pub returns-then-is_blank_end-clause-comes : goal.returns-then-is_blank_end-clause-comes
 returns-then-is_blank_end-clause-comes g c =
-    let before = c.asks.invariant in
-    let m = c.asks.next in
-    let t = c.in-Err-next.back in
     let was = c.is_blank_end.ensures.yes c.if-is_blank_end.true in
-    let next = rw was.1 at (rw c.in-Bad.is at (usually before.limits c.in-Err-next.ensures.next)) in
+    let next = rw was.1 at (rw c.in-Bad.is at (usually c.asks.invariant.limits c.in-Err-next.ensures.next)) in
     elim next.answers.3 [
       | inl wrong ↦ absurd (never_cut _ _ _ wrong.0)
       | inr end ↦
-          (let met = MetEnd-once m t c.in-Err-next.ensures.told end.3 in
-          RunsToLast-one [] [] (Before t) (refl, refl)
-          (AsksFew-after before.reads (next_few _ next c.in-Err-next.ensures.told) (omega (arith, before.most))) [] None tt Over (
-            gone before.went before.comes c.in-Ok.ensures next next.answers.0,
-            asked before.went before.comes c.in-Ok.ensures next,
-          ) (
-            joined before.reads (left_of t) (none_met next.answers.1),
-            inr (
-              All-nil (MayFollow true),
-              inr (omega (arith, met, before.reads.ends), subst (λ l. IsTrue (only_line_ends l)) c.buffered-in-Bad.ensures was.2),
-            ),
-          ))
+          over_blank g (goal.at.returns-then-is_blank_end-clause-comes g c).In-Err-next next next.answers.0 next.answers.1 end.3
+          (subst (λ l. IsTrue (only_line_ends l)) c.buffered-in-Bad.ensures was.2)
     ]
 
 pub returns-in-Bad-clause-comes : goal.returns-in-Bad-clause-comes
@@ -148,21 +133,18 @@ returns-in-Bad-clause-comes g c =
     let before = c.asks.invariant in
     let m = c.asks.next in
     let t = c.in-Err-next.back in
-    let told = c.in-Err-next.ensures.told in
+    let at = (goal.at.returns-in-Bad-clause-comes g c).In-Err-next in
     let next = rw c.in-Bad.is at (usually before.limits c.in-Err-next.ensures.next) in
-    let why = c.refusal_of.result in
+    let none = next.answers.0 in
     subst (λ x. RunsToLast g.R.TellRead.remaining g.W.Tell.log g.W.TellWrite.trace g.R.Tell.log (left_of c.args.requests)
     c.args.writer.now (Before t) x c.refuse.new.writer) (sym c.ending_of-ending.ensures)
-    (RunsToLast-refused [] [] (Before t) (refl, refl)
-    (AsksFew-after before.reads (next_few _ next told) (omega (arith, before.most))) why c.refuse.result (
-      gone before.went before.comes c.in-Ok.ensures next next.answers.0,
-      (c.send_to_ask.new.writer, asked before.went before.comes c.in-Ok.ensures next, c.refuse.ensures),
-    )
+    (RunsToLast-refused [] [] (Before t) (refl, refl) (few g at next none) c.refusal_of.result c.refuse.result
+    (gone g at next none, (c.send_to_ask.new.writer, asked g at next none, c.refuse.ensures))
     (elim next.answers.3 [
       | inl wrong ↦ inl (_, wrong.0, c.refusal_of.ensures)
       | inr cut ↦ inr (
         c.refusal_of.ensures ∙ ap refusal_of cut.0,
-        omega (arith, MetEnd-once m t told cut.3, before.reads.ends),
+        omega (arith, MetEnd-once m t c.in-Err-next.ensures.told cut.3, before.reads.ends),
         ap only_line_ends (sym c.buffered-in-Bad.ensures) ∙ sym (c.is_blank_end.ensures.cut _ cut.0) ∙ c.if-is_blank_end.false,
         cut.1,
       )
@@ -178,14 +160,12 @@ returns-in-None-clause-comes g c =
     let e = c.in-Io.e in
     let next = rw c.in-Io.is at (usually before.limits c.in-Err-next.ensures.next) in
     let answers = next.answers in
-    RunsToLast-one [] [] (Before t) (refl, refl)
-    (AsksFew-after before.reads (next_few _ next c.in-Err-next.ensures.told) (omega (arith, before.most))) [] None tt (Unread e)
-    (gone before.went before.comes c.in-Ok.ensures next answers.0, asked before.went before.comes c.in-Ok.ensures next) (
+    over g (goal.at.returns-in-None-clause-comes g c).In-Err-next next answers.0 (Unread e) refl (
       (
-        failed_behind (faults_of s) (faults_of (left_of m)) _ e before.reads.faults answers.2,
+        failed_behind (faults_of s) (faults_of (left_of m)) (faults_of (left_of t)) e before.reads.faults answers.2,
         λ is. row_on before.reads (omega (arith, ap length answers.2, length-append (faults_of (left_of m)) (e ∷ [])))
             (c.in-None.ensures.last is) before.rows (sym c.get_ref.ensures.log ∙ ap g.R.Tell.log c.get_ref.ensures.inner)
-            (λ some less. none_came next answers.0
+            (λ some less. none_came (nothing_went next answers.0).order
             (omega (arith, less, ap length c.buffered.ensures, ap length c.buffered-in-Io.ensures))),
       ),
       All-nil (MayFollow true),
@@ -195,7 +175,6 @@ returns-in-None-clause-comes g c =
 pub asks-preserved : goal.asks-preserved
 asks-preserved g c =
     let before = c.asks.invariant in
-    let s = left_of c.args.requests in
     let m = c.asks.next in
     let t = c.in-Err-next.back in
     let e = c.in-Io.e in
@@ -204,18 +183,20 @@ asks-preserved g c =
     let answers = next.answers in
     let fault : length (faults_of (left_of t)) ≡ length (faults_of (left_of m)) + 1 =
     omega (arith, ap length answers.2, length-append (faults_of (left_of m)) (e ∷ [])) in
-    let here = asked before.went before.comes c.in-Ok.ensures next in
+    let at = (goal.at.asks-preserved g c).In-Err-next in
+    let here = asked g at next answers.0 in
+    let order = (nothing_went next answers.0).order in
     record {
-      went = gone before.went before.comes c.in-Ok.ensures next answers.0;
+      went = gone g at next answers.0;
       comes = here;
       reads = again before.reads fault more.1 before.most (record {
         faults = OnlyInterrupts-one (faults_of (left_of m)) (faults_of (left_of t)) e more.0 answers.2;
         ends = answers.4;
         asks = next_few _ next c.in-Err-next.ensures.told;
-      }) (λ some less. some_came next answers.0
+      }) (λ some less. some_came order
           (omega (arith, less, ap length c.buffered.ensures, ap length c.buffered-in-Io.ensures)));
       rows = λ pos. row_on before.reads fault more.1 before.rows
-          (sym c.get_ref.ensures.log ∙ ap g.R.Tell.log c.get_ref.ensures.inner) (λ some less. none_came next answers.0
+          (sym c.get_ref.ensures.log ∙ ap g.R.Tell.log c.get_ref.ensures.inner) (λ some less. none_came order
           (omega (arith, less, ap length c.buffered.ensures, ap length c.buffered-in-Io.ensures)));
       most = more.2;
       open' = λ pos. answers.1;
@@ -232,14 +213,7 @@ asks-smaller g c =
     let next = rw c.in-Io.is at (usually before.limits c.in-Err-next.ensures.next) in
     let shows = next.looked.shows next.answers.1 in
     let fits : length (rest t) < (heads usual).most = omega (arith, shows.most, shows.few) in
-    let order = next.went.hands in
-    let grows : length (rest m) ≤ length (rest t) = omega (
-      arith,
-      ap length order.equal,
-      ap length next.answers.0,
-      length-append next.bytes (rest t),
-      length-append (rest m) order.got,
-    ) in
+    let grows = came (nothing_went next next.answers.0).order in
     elim c.in-Some.ensures.again.1 [
       | inl on ↦ omega (arith, fits, grows, on.1, c.in-Some.ensures.again.2)
       | inr anew ↦ omega (
