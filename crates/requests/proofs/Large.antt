@@ -1,38 +1,23 @@
 -- Which bodies are too large.
 use Rattle.std.proofs.Common.{◌≡◌, ℕ, ◌+◌, ◌-◌, ◌*◌, ◌^◌, ◌≤◌, ◌⊎◌, ◌++◌, ◌||◌, nat_lt, min, Bool, false, List, [], Option, drop, length, length-drop, take, take-append-drop, sym, ap, subst, inl, inr, ◌∙◌, refl, arith, append-nil}
 use Rattle.requests.proofs.Names.{body_rules, BodyCoding, cases_lt, coding_of, Enters, false≢true, AwaitsMore, handed_of, InBody, InsideGoes, is_large, IsAwaited, IsBodyReader, le-ltb, LeadsOpen, length-take-le, lt-ltb, max_payload, Side, usual, BodyPlace as Place}
+use Rattle.std.proofs.lemmas.Bool.{ltb-false, or_parts}
+use Rattle.std.proofs.lemmas.Bool.Decides.{nat_tests}
 use Rattle.body_reader.specs.Coding.{Leads, heeded}
 use Rattle.body_reader.specs.declared.either.Either.TheVariants as which
 use Rattle.messages.specs.declared.head.Extent.{Extent}
 use Rattle.requests.specs.Large.{IsNewlyLarge, usual_rules}
 use Rattle.messages.specs.declared.head.Extent.TheVariants.{Sized, Chunked}
 
--- a count of what was taken ends far beyond that
-same_test : (n p : ℕ) → p ≤ max_payload
-    → nat_lt (16384 + 6 * p) (min n (2 ^ 64 - 1)) ≡ nat_lt (16384 + 6 * p) n
-same_test n p few = elim (cases_lt (16384 + 6 * p) n) [
-  | inl more ↦ lt-ltb (16384 + 6 * p) (min n (2 ^ 64 - 1)) (omega (arith, few, more)) ∙ sym (lt-ltb (16384 + 6 * p) n more)
-  | inr less ↦ le-ltb (16384 + 6 * p) (min n (2 ^ 64 - 1)) (omega (arith, less)) ∙ sym (le-ltb (16384 + 6 * p) n less)
-]
-
+-- a count of what was taken ends far beyond what is too large
 large_counted : (extent : Extent) (n p : ℕ) → is_large extent (min n (2 ^ 64 - 1)) p ≡ is_large extent n p
 large_counted (Sized all) n p = refl
-large_counted Chunked n p = elim (cases_lt max_payload p) [
-  | inl over ↦ ap (λ b. b || nat_lt (16384 + 6 * p) (min n (2 ^ 64 - 1))) (lt-ltb max_payload p over)
-      ∙ sym (ap (λ b. b || nat_lt (16384 + 6 * p) n) (lt-ltb max_payload p over))
-  | inr few ↦ ap (λ b. nat_lt max_payload p || b) (same_test n p few)
-]
+large_counted Chunked n p = grind (arith, nat_tests)
 
 -- so far payload is counted
 pub few_counted : (extent : Extent) (n p : ℕ) → is_large extent n p ≡ false → p ≤ max_payload
-few_counted (Sized all) n p small = elim (cases_lt max_payload p) [
-  | inl over ↦ absurd (false≢true (sym small ∙ ap (λ b. b || nat_lt max_payload all) (lt-ltb max_payload p over)))
-  | inr few ↦ few
-]
-few_counted Chunked n p small = elim (cases_lt max_payload p) [
-  | inl over ↦ absurd (false≢true (sym small ∙ ap (λ b. b || nat_lt (16384 + 6 * p) n) (lt-ltb max_payload p over)))
-  | inr few ↦ few
-]
+few_counted (Sized all) n p small = ltb-false max_payload p (or_parts _ _ small).0
+few_counted Chunked n p small = ltb-false max_payload p (or_parts _ _ small).0
 
 -- what a test of counts says of what was taken
 pub tested : (e e' : Extent) (m n : ℕ) (taken : List ℕ) (b : Bool) → b ≡ is_large e m n → e ≡ e'
@@ -61,12 +46,7 @@ few_within : (extent : Extent) (n : ℕ) (taken handed follow : List ℕ) (place
     → Leads (usual_rules extent) (usual_rules extent).first taken handed place follow → is_large extent (length taken) n ≡ false
     → length taken ≤ 7 * max_payload
 few_within (Sized all) n taken handed follow place leads small =
-    let fits : all ≤ max_payload = elim (cases_lt max_payload all) [
-      | inl over ↦ absurd (false≢true (sym small
-          ∙ ap (λ b. b || nat_lt max_payload all) (le-ltb max_payload n (few_counted (Sized all) (length taken) n small))
-          ∙ lt-ltb max_payload all over))
-      | inr few ↦ few
-    ] in
+    let fits : all ≤ max_payload = ltb-false max_payload all (or_parts (nat_lt max_payload n) _ small).1 in
     elim (cases_lt all (length taken)) [
       | inl more ↦ (let past = leads.within (take all taken) (take all taken) (drop all taken)
           (length-take-le all taken (omega (arith, more)), refl) (sym (take-append-drop all taken)) in
@@ -74,13 +54,11 @@ few_within (Sized all) n taken handed follow place leads small =
       | inr few ↦ omega (arith, few, fits)
     ]
 few_within Chunked n taken handed follow place leads small =
-    let few = few_counted Chunked (length taken) n small in
-    elim (cases_lt (16384 + 6 * n) (length taken)) [
-      | inl over ↦ absurd (false≢true (sym small
-          ∙ ap (λ b. b || nat_lt (16384 + 6 * n) (length taken)) (le-ltb max_payload n few)
-          ∙ lt-ltb (16384 + 6 * n) (length taken) over))
-      | inr less ↦ omega (arith, less, few)
-    ]
+    omega (
+      arith,
+      few_counted Chunked (length taken) n small,
+      ltb-false (16384 + 6 * n) (length taken) (or_parts (nat_lt max_payload n) _ small).1,
+    )
 
 pub few_taken : {S : Type 0} {remaining : S → Option (List ℕ)} {b m : InBody S} {payload : List ℕ} (n : ℕ) → Enters usual b
     → InsideGoes remaining b payload m → is_large m.said.extent (length m.body.taken) n ≡ false

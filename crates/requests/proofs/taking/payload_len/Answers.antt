@@ -4,7 +4,7 @@ use Rattle.std.proofs.Common.{◌≡◌, ◌∙◌, false, ℕ, zero, suc, ◌+�
 use Rattle.body_reader.specs.Between.{handed_out}
 use Rattle.messages.specs.declared.head.ParsedHead.{ParsedHead}
 use Rattle.redux_buffer.specs.Faults.{IsInterrupt}
-use Rattle.requests.proofs.Names.{AwaitsMore, body_rules, Buffered, cases_lt, Enters, Error, FailsInRow, FailsOnce, faults_of, handed_of, InBody, Inside, InsideGoes, InsideGoes-joins, InsideGoes-none, Io, is_large, IsAwaited, IsToBeRefused, BadRequest, length-take-le, max_payload, OnlyInterrupts-one, Prompt, OneReadFails, ReadsSome, ReadsSteadily, sent_till, sent_with, StdPolicy, stream_in, StreamLog, TakeFails, TookWholeBody, Truncated, Unbuffered, Untaken, usual, Wrong}
+use Rattle.requests.proofs.Names.{AwaitsMore, body_rules, Buffered, cases_lt, Enters, Error, FailsInRow, FailsOnce, faults_of, handed_of, InBody, Inside, InsideGoes, InsideGoes-joins, InsideGoes-none, Io, is_large, IsAwaited, IsToBeRefused, BadRequest, length-take-le, max_payload, nil_from_length, OnlyInterrupts-one, Prompt, OneReadFails, ReadsSome, ReadsSteadily, sent_till, sent_with, StdPolicy, stream_in, StreamLog, TakeFails, TookWholeBody, Truncated, Unbuffered, Untaken, usual, Wrong}
 use Rattle.codec.specs.AskedAgain.{InARow}
 use Rattle.requests.specs.declared.taking.Untaken.TheVariants.{Body, Large, Unsent}
 use Rattle.requests.proofs.Interrupted.{again, body_came, body_none, calm, row_on}
@@ -13,18 +13,6 @@ use Rattle.requests.proofs.Reading.{AsksFew-after, AsksFew-upto, failed_behind, 
 use Rattle.requests.proofs.Sending.{Prompt-held, Prompt-none, Prompt-on}
 use Rattle.requests.proofs.taking.payload_len.Goals as goal
 use Rattle.requests.proofs.taking.payload_len.Goals.{After-taken-in-reads}
-
--- one read more
-many_on : {R : Type 0} {remaining : R → Option (List ℕ)} {m t : InBody R} {len : ℕ} (out : List ℕ) (count : ℕ)
-    → len ≡ length (handed_of m.body) → count ≤ length out → InsideGoes remaining m (take count out) t
-    → len + count ≡ length (handed_of t.body)
-many_on {m = m} out count many bound goes = omega (
-  arith,
-  many,
-  ap length goes.went.handed,
-  length-append (handed_of m.body) (take count out),
-  length-take-le count out bound,
-)
 
 -- a read handed out what it noted, or nothing
 latest_of : {latest : List ℕ} (count : ℕ) (out : List ℕ) → count ≤ length out → count ≤ 4096
@@ -150,23 +138,16 @@ module _ {R : Type 0} {remaining : R → Option (List ℕ)} {b m t : InBody R} {
     took_some : (count : ℕ) (out : List ℕ) → (goes : InsideGoes remaining m (take count out) t)
         → TookWholeBody (body_rules t.body.coding) t.body ⊎ (0 < count)
         → (0 < count) ⊎ (length m.body.taken < length t.body.taken)
-    took_some zero out goes (inl ended) = elim goes.went.wire as (λ l. l ≡ goes.went.wire
-        → (0 < 0) ⊎ (length m.body.taken < length t.body.taken)) [
-          | [] ↦ λ none. absurd (open' (
-              let taken : t.body.taken ≡ m.body.taken =
-              goes.went.taken ∙ ap (λ l. m.body.taken ++ l) (sym none) ∙ append-nil m.body.taken in
-              let handed : handed_of t.body ≡ handed_of m.body = goes.went.handed ∙ append-nil (handed_of m.body) in
-              subst (λ c. (body_rules c).completes (body_rules c).first m.body.taken (handed_of m.body)) goes.went.coding
-              (subst (λ l. (body_rules t.body.coding).completes (body_rules t.body.coding).first m.body.taken l) handed
-              (subst (λ l. (body_rules t.body.coding).completes (body_rules t.body.coding).first l (handed_of t.body))
-              taken ended))))
-          | x ∷ more ↦ λ some. inr (omega (
-            arith,
-            ap length goes.went.taken,
-            length-append m.body.taken goes.went.wire,
-            ap length some,
-          ))
-        ] refl
+    took_some zero out goes (inl ended) = elim (cases_lt (length m.body.taken) (length t.body.taken)) [
+      | inl more ↦ inr more
+      | inr less ↦
+          (let none : goes.went.wire ≡ [] = nil_from_length goes.went.wire
+          (omega (arith, less, ap length goes.went.taken, length-append m.body.taken goes.went.wire)) in
+          let taken : t.body.taken ≡ m.body.taken =
+          goes.went.taken ∙ ap (λ l. m.body.taken ++ l) none ∙ append-nil m.body.taken in
+          let handed : handed_of t.body ≡ handed_of m.body = goes.went.handed ∙ append-nil (handed_of m.body) in
+          absurd (open' (rw (taken, handed, goes.went.coding) at ended)))
+    ]
     took_some zero out goes (inr some) = absurd (omega (arith, some))
     took_some (suc n) out goes more = inl (omega arith)
 
@@ -208,7 +189,13 @@ reads-preserved g c =
           record {
             payload = before.payload ++ take c.in-Ok.count out;
             goes = InsideGoes-joins g.R.TellRead.remaining b m t before.payload (take c.in-Ok.count out) before.goes read.goes;
-            many = many_on out c.in-Ok.count before.many read.bound read.goes;
+            many = omega (
+              arith,
+              before.many,
+              ap length read.goes.went.handed,
+              length-append (handed_of m.body) (take c.in-Ok.count out),
+              length-take-le c.in-Ok.count out read.bound,
+            );
             reads = subst (λ n. ReadsSteadily n (stream_in b) (stream_in t)) (sym ends)
                 (calm before.reads before.most read.reads.steady read.reads.same (λ pos.
                 (let there = before.none pos in
