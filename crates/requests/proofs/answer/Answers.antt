@@ -20,13 +20,6 @@ returns-in-Ok-clause-turns g c =
       comes = Prompt-read AwaitsHead c.args.writer.now went.order c.in-Ok.ensures.unasked;
     })
 
-pub answer_body-requires-clause-enters : goal.answer_body-requires-clause-enters
-answer_body-requires-clause-enters g c = begun_enters c.in-Ok.ensures.begun c.requires.limits
-
-pub returns-in-Ok-clause-room : goal.returns-in-Ok-clause-room
-returns-in-Ok-clause-room g c =
-    subst (λ r. KeepsRoom r c.answer_body.result) c.in-Ok.ensures.begun.room c.answer_body.ensures.room
-
 pub answer_body-requires-in-Ok-come_to_next-clause-held : goal.answer_body-requires-in-Ok-come_to_next-clause-held
 answer_body-requires-in-Ok-come_to_next-clause-held g c =
     Prompt-held (Ok tt) c.in-Ok-come_to_next.ensures.comes.comes c.requires.held

@@ -26,10 +26,6 @@ pub answer_called-requires-clause-held : goal.answer_called-requires-clause-held
 answer_called-requires-clause-held g c =
     SendsForRoom-held (Ok tt) c.in-Ok.ensures c.requires.held
 
-pub answer_called-requires-clause-open : goal.answer_called-requires-clause-open
-answer_called-requires-clause-open g c =
-    sym (settled g (goal.at.answer_called-requires-clause-open g c).After-early_refusal) ∙ c.in-None.is
-
 -- the text of the call
 text : (g : _) (c : After-early_refusal g)
     → called (is_called c.is_known-known.result c.said-said.result)

@@ -72,6 +72,3 @@ returns-in-Err-clause-turns g c = λ s w v come call.
     let part = c.in-Err.ensures.part in
     torn_answered c.requires.open come part.1 call
     c.in-Err.why c.unended-ending.result part.2 c.in-Err.ensures.writes c.unended-ending.ensures
-
-pub returns-in-Err-clause-room : goal.returns-in-Err-clause-room
-returns-in-Err-clause-room g c = c.in-Err.ensures.part.1.room

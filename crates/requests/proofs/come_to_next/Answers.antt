@@ -62,9 +62,6 @@ returns-in-Ok-next-clause-comes g c =
           (comes m c.asks.writer c.send_to_ask.new.writer c.in-Ok.ensures _ begun.behind (usually before.limits begun.next)));
     }
 
-pub returns-in-Ok-next-clause-room : goal.returns-in-Ok-next-clause-room
-returns-in-Ok-next-clause-room g c = c.in-Ok-next.ensures.next.room ∙ c.asks.invariant.room
-
 -- no head came
 module _ (g : _) (c : In-Err-next g) {answer : NextAnswer BadHead}
     (next : NextPiece g.R.TellRead.remaining (heads usual) c.asks.next answer c.in-Err-next.back) (none : next.bytes ≡ []) where

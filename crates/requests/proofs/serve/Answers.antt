@@ -61,9 +61,6 @@ returns-in-Err g c = record {
   };
 }
 
-pub returns-clause-few : goal.returns-clause-few
-returns-clause-few g c = omega (arith, c.loop-message.invariant.goes.reads.asks.few)
-
 pub returns-clause-serves : goal.returns-clause-serves
 returns-clause-serves g c =
     let before = c.loop-message.invariant in record {
