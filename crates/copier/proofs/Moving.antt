@@ -65,15 +65,6 @@ module _ {R P W Q : Type 0} (s t : Buffered R P) (u v : Buffered W Q) (none : s.
       taken = passed.received;
     }
 
-    whole : t.block.bytes ≡ [] → v.block.bytes ≡ []
-        → (t.log.reads.given ≡ s.log.reads.given ++ bytes) × (v.log.writes.received ≡ u.log.writes.received ++ bytes)
-    whole left left' = (
-      given ∙ ap (λ l. s.log.reads.given ++ (bytes ++ l)) left
-          ∙ ap (λ l. s.log.reads.given ++ l) (append-nil bytes),
-      passed.received ∙ ap (λ l. u.log.writes.received ++ l)
-          (sym (append-nil passed.sent) ∙ ap (λ l. passed.sent ++ l) (sym left') ∙ sent),
-    )
-
 -- what a writer told of interrupted calls
 own_met : {W Q : Type 0} (u v : Buffered W Q)
     → MetInterrupts (writer_log u).writes (writer_log v).writes → MetInterrupts u.own_calls.writes v.own_calls.writes
@@ -131,9 +122,15 @@ module _ {R P W Q : Type 0} {remaining : R → Option (List ℕ)} {trace : W →
     {u v : Buffered W Q} (went : ReaderWent remaining std_read_rules s t)
     (went' : WriterWent trace std_write_rules u v) (none : s.block.bytes ≡ [])
     (none' : u.block.bytes ≡ []) where
-  module _ (n : ℕ)
-      (moved : MovedBy n (reader_log s).fills (reader_log t).fills
-      (writer_log u).writes (writer_log v).writes) where
+  abbrev Moved : ℕ → Type 0
+  Moved n = MovedBy n (reader_log s).fills (reader_log t).fills (writer_log u).writes (writer_log v).writes
+
+  abbrev Failed : (W → StreamLog) → Error → Type 0
+  Failed tells e = StreamFailed writer_log (WriterWent trace std_write_rules) (WriterCalled tells trace std_write_rules) e
+      (reader_log s).fills (reader_log t).fills u v
+      ⊎ MovedTooMuch e (reader_log s).fills (reader_log t).fills (writer_log u).writes (writer_log v).writes
+
+  module _ (n : ℕ) (moved : Moved n) where
     handed : ReadsInOrder s moved.bytes t
     handed = subst (λ l. ReadsInOrder s l t)
         (append_cancel_left s.own_calls.fills.consumed went.handed moved.bytes
@@ -190,10 +187,7 @@ module _ {R P W Q : Type 0} {remaining : R → Option (List ℕ)} {trace : W →
       → (reader_log t).fills.zero_fills ≤ (reader_log s).fills.zero_fills + 1) → EndsOnce s.log.reads t.log.reads
   copy_once tells room shows = omega (arith, went.once ReadsWhenEmpty-std, shows (TakesNothing-std tells trace u room))
 
-  pub copy_caused : {tells : W → StreamLog} (e : Error)
-      → StreamFailed writer_log (WriterWent trace std_write_rules) (WriterCalled tells trace std_write_rules) e
-      (reader_log s).fills (reader_log t).fills u v
-      ⊎ MovedTooMuch e (reader_log s).fills (reader_log t).fills (writer_log u).writes (writer_log v).writes
+  pub copy_caused : {tells : W → StreamLog} (e : Error) → Failed tells e
       → EitherFailed e s.log t.log u.log v.log
       ⊎ (RefusedBeforeCalls e s.log t.log u.log v.log ⊎ OverTotal e s.log t.log u.log v.log)
   copy_caused e (inl (inl source)) = inl (inl (record {
@@ -236,10 +230,7 @@ module _ {R P W Q : Type 0} {remaining : R → Option (List ℕ)} {trace : W →
       → v.log.writes.zero_writes ≡ u.log.writes.zero_writes
   zero_same e is caused = elim caused.cause [ inl nothing ↦ cc | inr fault ↦ fault.zero_writes ]
 
-  pub copy_often : {tells : W → StreamLog} (e : Error)
-      → StreamFailed writer_log (WriterWent trace std_write_rules) (WriterCalled tells trace std_write_rules) e
-      (reader_log s).fills (reader_log t).fills u v
-      ⊎ MovedTooMuch e (reader_log s).fills (reader_log t).fills (writer_log u).writes (writer_log v).writes
+  pub copy_often : {tells : W → StreamLog} (e : Error) → Failed tells e
       → (error_kind e ≡ Interrupted
       → faults_met (reader_log s).fills (writer_log u).writes + interrupt_limit + 1
       ≤ faults_met (reader_log t).fills (writer_log v).writes)
@@ -275,123 +266,93 @@ module _ {R P W Q : Type 0} {remaining : R → Option (List ℕ)} {trace : W →
             (out_met trace (reader_log s).fills (reader_log t).fills u v ended.last left went') caused;
       })
 
-      -- all was sent, and then the flush was left
-      only_flush_left : (total : ℕ)
-          → MovedBy total (reader_log s).fills (reader_log t).fills (writer_log u).writes (writer_log v).writes
-          → 0 < s.block.capacity → WritesInOrder v [] v' → (sent : StreamLog)
-          → Sends (length v.block.bytes) v.block v.log (Ok tt) v'.block sent → OnlyFlushLeft s.log t.log u.log v'.log
-      only_flush_left total moved room in_order sent sends =
-          let empty : v'.block.bytes ≡ [] = nil_from_length v'.block.bytes
-          (omega (arith, sends.whole, ap length sends.sent.dropped.bytes, length-drop sends.count v.block.bytes)) in
-          let all = whole s t u v' none none' moved.bytes (handed total moved)
-          (WritesInOrder-then u v v' moved.bytes (passed total moved) in_order)
-          (nil_from_length t.block.bytes left) empty in
-          record {
-            bytes = moved.bytes;
-            given = all.0;
-            received = all.1;
-            ended = omega (arith, went.ends (inl refl) room, ended.ends left);
-          }
+      module _ (total : ℕ) (moved : Moved total) (room : 0 < s.block.capacity) (in_order : WritesInOrder v [] v') where
+        -- all was sent, and then the flush was left
+        abbrev only_flush_left : v'.block.bytes ≡ [] → OnlyFlushLeft s.log t.log u.log v'.log
+        only_flush_left empty =
+            let order = WritesInOrder-then u v v' moved.bytes (passed total moved) in_order in
+            record {
+              bytes = moved.bytes;
+              given = given s t u v' none none' moved.bytes (handed total moved)
+                  ∙ ap (λ l. s.log.reads.given ++ (moved.bytes ++ l)) (nil_from_length t.block.bytes left)
+                  ∙ ap (λ l. s.log.reads.given ++ l) (append-nil moved.bytes);
+              received = order.received ∙ ap (λ l. u.log.writes.received ++ l) (sym (append-nil order.sent)
+                  ∙ ap (λ l. order.sent ++ l) (sym empty)
+                  ∙ sent s t u v' none none' moved.bytes (handed total moved) order);
+              ended = omega (arith, went.ends (inl refl) room, ended.ends left);
+            }
 
-      module _ (total : ℕ)
-          (moved : MovedBy total (reader_log s).fills (reader_log t).fills (writer_log u).writes (writer_log v).writes)
-          (room : 0 < s.block.capacity) (in_order : WritesInOrder v [] v') where
+        -- as many interruptions as the limit, and one more
+        rise : (e : Error) (interrupts : List Error) → v'.log.writes.faults ≡ v.log.writes.faults ++ interrupts ++ e ∷ []
+            → interrupt_limit ≤ length interrupts → RunFaults.FaultsRise (interrupt_limit + 1) s.log t.log u.log v'.log
+        rise e interrupts faults many =
+            let before = went'.grows.faults in
+            let alike = went.faults refl in
+            omega (
+              arith,
+              many,
+              ap length faults,
+              length-append (v.log.writes.faults ++ interrupts) (e ∷ []),
+              length-append v.log.writes.faults interrupts,
+              ap length before.equal,
+              length-append u.log.writes.faults before.more,
+              ap length alike.second,
+              length-append s.log.reads.faults alike.more,
+            )
+
         -- the flush was made then, or sending failed
         counted : (answer sending : Result (Unit {0}) Error) (sent : StreamLog)
             → Sends (length v.block.bytes) v.block v.log sending v'.block sent
             → MatchResult sending (λ _. v'.log ≡ after_flush sent answer) (λ d. (answer ≡ Err d) × (v'.log ≡ sent))
             → (OnlyFlushLeft s.log t.log u.log v'.log × (v'.log.writes.flushes ≡ u.log.writes.flushes + 1))
-            ⊎ (((d : Error) × (answer ≡ Err d)) × (v'.log.writes.flushes ≡ u.log.writes.flushes))
+            ⊎ (((d : Error) × (answer ≡ Err d) × (error_kind d ≡ Interrupted
+            → RunFaults.FaultsRise (interrupt_limit + 1) s.log t.log u.log v'.log))
+            × (v'.log.writes.flushes ≡ u.log.writes.flushes))
         counted answer (Ok _) sent sends told = inl (
-          only_flush_left total moved room in_order sent sends,
+          only_flush_left (nil_from_length v'.block.bytes
+              (omega (arith, sends.whole, ap length sends.sent.dropped.bytes, length-drop sends.count v.block.bytes))),
           omega (arith, ap (λ l. l.writes.flushes) told, sends.sent.flushes, copy_unflushed total moved),
         )
         counted answer (Err d) sent sends told = inr (
-          (d, told.0),
+          (
+            d,
+            told.0,
+            λ is. elim sends.failed.cause [
+              | inl nothing ↦ let kind = nothing.is_write_zero in cc
+              | inr fault ↦
+                  rise d sends.interrupts (ap (λ l. l.writes.faults) told.1 ∙ fault.faults) (sends.failed.often is)
+            ],
+          ),
           omega (arith, ap (λ l. l.writes.flushes) told.1, sends.sent.flushes, copy_unflushed total moved),
         )
 
-        flushed_once : Flushes v (Ok tt) v' → v'.log.writes.flushes ≡ u.log.writes.flushes + 1
-        flushed_once f = elim (counted (Ok tt) f.sending f.sent_log f.sends f.ended) [
-          | inl made ↦ made.1
-          | inr failed ↦ absurd (let odd = failed.0.1 in cc)
-        ]
-
         pub flushed_at_most : (e : Error) → Flushes v (Err e) v' → (v'.log.writes.flushes ≡ u.log.writes.flushes)
             ⊎ (OnlyFlushLeft s.log t.log u.log v'.log × (v'.log.writes.flushes ≡ u.log.writes.flushes + 1))
-        flushed_at_most e f = elim (counted (Err e) f.sending f.sent_log f.sends f.ended) [
-          | inl made ↦ inr made
-          | inr failed ↦ inl failed.1
+        flushed_at_most e f = elim (counted (Err e) f.sending f.sent_log f.sends f.ended) [ inl made ↦ inr made | inr failed ↦ inl failed.1 ]
+
+        pub flush_often : (e : Error) → Flushes v (Err e) v' → InterruptedOften e s.log t.log u.log v'.log
+        flush_often e f is = elim (counted (Err e) f.sending f.sent_log f.sends f.ended) [
+          | inl made ↦ inr made.0
+          | inr ((d, same, often), flushes) ↦ inl (often (let alike : e ≡ d = cc in sym (ap error_kind alike) ∙ is))
         ]
 
-      pub flush_often : (total : ℕ)
-          → MovedBy total (reader_log s).fills (reader_log t).fills (writer_log u).writes (writer_log v).writes
-          → 0 < s.block.capacity → (e : Error) → Flushes v (Err e) v' → WritesInOrder v [] v'
-          → InterruptedOften e s.log t.log u.log v'.log
-      flush_often total moved room e flushes in_order is =
-          by_sending flushes.sending (Err e) refl flushes.sends flushes.ended
-        where
-          rise : (interrupts : List Error) → v'.log.writes.faults ≡ v.log.writes.faults ++ interrupts ++ e ∷ []
-              → interrupt_limit ≤ length interrupts → RunFaults.FaultsRise (interrupt_limit + 1) s.log t.log u.log v'.log
-          rise interrupts faults many =
-              let before = went'.grows.faults in
-              let alike = went.faults refl in
-              let last : length v'.log.writes.faults ≡ length v.log.writes.faults + (length interrupts + 1) =
-              omega (
-                arith,
-                ap length faults,
-                length-append (v.log.writes.faults ++ interrupts) (e ∷ []),
-                length-append v.log.writes.faults interrupts,
-              ) in
-              let first : length v.log.writes.faults ≡ length (u.log.writes.faults ++ before.more) = ap length before.equal in
-              omega (
-                arith,
-                many,
-                last,
-                first,
-                length-append u.log.writes.faults before.more,
-                ap length alike.second,
-                length-append s.log.reads.faults alike.more,
-              )
-
-          by_sending : (sending answer : Result (Unit {0}) Error) → answer ≡ Err e
-              → Sends (length v.block.bytes) v.block v.log sending v'.block flushes.sent_log
-              → MatchResult sending (λ _. v'.log ≡ after_flush flushes.sent_log answer)
-              (λ d. (answer ≡ Err d) × (v'.log ≡ flushes.sent_log))
-              → RunFaults.FaultsRise (interrupt_limit + 1) s.log t.log u.log v'.log ⊎ OnlyFlushLeft s.log t.log u.log v'.log
-          by_sending (Ok _) answer failed sends ended' =
-              inr (only_flush_left total moved room in_order flushes.sent_log sends)
-          by_sending (Err d) answer failed sends ended' =
-              let failed' = ended'.0 in
-              let same : e ≡ d = cc in
-              elim sends.failed.cause [
-                | inl nothing ↦ let kind = nothing.is_write_zero in cc
-                | inr fault ↦ inl (rise sends.interrupts
-                    (ap (λ l. l.writes.faults) ended'.1 ∙ fault.faults
-                    ∙ ap (λ x. v.log.writes.faults ++ sends.interrupts ++ x ∷ []) (sym same))
-                    (sends.failed.often (ap error_kind (sym same) ∙ is)))
-              ]
-
-      pub flush_copied : (total : ℕ)
-          → MovedBy total (reader_log s).fills (reader_log t).fills (writer_log u).writes (writer_log v).writes
-          → 0 < s.block.capacity → WritesInOrder v [] v' → Flushes v (Ok tt) v' → IsFlushed v v'
-          → Copied total s.log t.log u.log v'.log
-      flush_copied total moved room flush flushes flushed =
-          let all = whole s t u v' none none' moved.bytes (handed total moved)
-          (WritesInOrder-then u v v' moved.bytes (passed total moved) flush)
-          (nil_from_length t.block.bytes left) flushed.empty in
-          record {
-            bytes = moved.bytes;
-            count = moved.count;
-            given = all.0;
-            received = all.1;
-            flushed = flushed.flushed;
-            flushes = flushed_once total moved room flush flushes;
-            ended = omega (arith, went.ends (inl refl) room, ended.ends left);
-            met = record {
-              reader = only ended.last.reader;
-              writer =
-                  MetInterrupts-joins u.log.writes v.log.writes v'.log.writes
-                  (out_met trace (reader_log s).fills (reader_log t).fills u v ended.last left went') flushed.met;
-            };
-          }
+        pub flush_copied : Flushes v (Ok tt) v' → IsFlushed v v' → Copied total s.log t.log u.log v'.log
+        flush_copied flushes flushed =
+            let over = only_flush_left flushed.empty in
+            record {
+              bytes = moved.bytes;
+              count = moved.count;
+              given = over.given;
+              received = over.received;
+              flushed = flushed.flushed;
+              flushes = elim (counted (Ok tt) flushes.sending flushes.sent_log flushes.sends flushes.ended) [
+                | inl made ↦ made.1
+                | inr failed ↦ absurd (let odd = failed.0.1 in cc)
+              ];
+              ended = over.ended;
+              met = record {
+                reader = only ended.last.reader;
+                writer = MetInterrupts-joins u.log.writes v.log.writes v'.log.writes
+                    (out_met trace (reader_log s).fills (reader_log t).fills u v ended.last left went') flushed.met;
+              };
+            }

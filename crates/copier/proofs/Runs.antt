@@ -82,8 +82,8 @@ module _ {R W : Type 0} (remaining : R → Option (List ℕ)) (tells : W → Str
           tt,
           record {
             caused = inl (flush_caused went went' source.bytes target.bytes copy.ended none v e flushed.caused);
-            often = flush_often went went' source.bytes target.bytes copy.ended none v total copy.moved room e flushed.steps
-                flushed.in_order;
+            often = flush_often went went' source.bytes target.bytes copy.ended none v total copy.moved room flushed.in_order e
+                flushed.steps;
             not_flushed = flushed.not_flushed ∙ copy.moved.not_flushed;
             flushes = flushed_at_most went went' source.bytes target.bytes copy.ended none v total copy.moved room
                 flushed.in_order e flushed.steps;
@@ -132,16 +132,6 @@ module _ {R W : Type 0} (remaining : R → Option (List ℕ)) (tells : W → Str
         offers = offers_all went whole;
         sends = came.3;
       }
-
--- what words ask for they ask for alone
-pub one_asked : (x y : Bool × ℕ) → Some y ≡ Some x → (x.0 ≡ y.0) × (x.1 ≡ y.1)
-one_asked x y told = (sym (ap (λ o. (unwrap_or o x).0) told), sym (ap (λ o. (unwrap_or o x).1) told))
-
--- by the answer
-pub went_so : (P : ℕ → Type 0) (Q : Error → Type 0) (answer : Result ℕ Error) → IfOk answer P → IfErr answer Q
-    → MatchResult answer P Q
-went_so P Q (Ok total) well badly = well
-went_so P Q (Err e) well badly = badly
 
 -- no run that began answers how it is used
 pub never_usage : (answer : Result ℕ Error) (ending : Ending) → EndsAs answer ending → ending ≡ Usage → ⊥

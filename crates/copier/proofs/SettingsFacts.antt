@@ -26,17 +26,9 @@ pub unnamed : (word : List ℕ) (o : Option Bool)
     → ((a : Bool) → (o ≡ Some a) ↔ NamesBuffer word a) → o ≡ None → (a : Bool) → ¬ NamesBuffer word a
 unnamed word o told none a name = let e = (told a).1 name in cc
 
-abbrev asked : Bool → ℕ → Option (Bool × ℕ)
-asked ring capacity = Some (ring, capacity)
-
-same_ring : (a b : Bool) (m n : ℕ) → asked a m ≡ asked b n → b ≡ a
-same_ring a b m n e = sym (ap (λ (o : Option (Bool × ℕ)). (unwrap_or {T = Bool × ℕ} o (false, 0)).0) e)
-
-same_capacity : (a b : Bool) (m n : ℕ) → asked a m ≡ asked b n → n ≡ m
-same_capacity a b m n e = sym (ap (λ (o : Option (Bool × ℕ)). (unwrap_or {T = Bool × ℕ} o (false, 0)).1) e)
-
-asked_same : (a b : Bool) (m n : ℕ) → a ≡ b → m ≡ n → asked a m ≡ asked b n
-asked_same a b m n e f = ap (λ x. asked x m) e ∙ ap (λ y. asked b y) f
+-- what words ask for they ask for alone
+pub one_asked : (x y : Bool × ℕ) → Some y ≡ Some x → (x.0 ≡ y.0) × (x.1 ≡ y.1)
+one_asked x y told = (cc, cc)
 
 -- the answer is what the words ask for
 abbrev pub Tells : List (List ℕ) → Option (Bool × ℕ) → Type 0
@@ -45,9 +37,9 @@ Tells words answer =
 
 pub tells_named : (word : List ℕ) (ring : Bool) → NamesBuffer word ring → Tells (word ∷ []) (Some (ring, 8192))
 tells_named word a name b n = (
-  λ same. inl (rw (same_ring a b 8192 n same) name, same_capacity a b 8192 n same),
+  λ same. (let is = one_asked (b, n) (a, 8192) same in inl (rw is.0 name, is.1)),
   λ ask. elim ask [
-    | inl (other, size) ↦ asked_same a b 8192 n (one_name word a b name other) (sym size)
+    | inl (other, size) ↦ (let is = one_name word a b name other in cc)
     | inr (none, is) ↦ absurd (named_not_sized word a name is.0)
   ],
 )
@@ -64,8 +56,8 @@ tells_none_named v w unnamed ring n = (λ same. cc, λ ask. absurd (unnamed ring
 pub tells_both : (v w : List ℕ) (ring : Bool) (m : ℕ) → NamesBuffer v ring → IsCapacity w → m ≡ digits_value 10 w
     → Tells (v ∷ w ∷ []) (Some (ring, m))
 tells_both v w a m name is size b n = (
-  λ same. (rw (same_ring a b m n same) name, (is, same_capacity a b m n same ∙ size)),
-  λ ask. asked_same a b m n (one_name v a b name ask.0) (size ∙ sym ask.1.1),
+  λ same. (let one = one_asked (b, n) (a, m) same in (rw one.0 name, (is, one.1 ∙ size))),
+  λ ask. (let one = one_name v a b name ask.0 in let same = ask.1.1 in cc),
 )
 
 -- a list with one item, and with two

@@ -1,8 +1,9 @@
 -- Words ask for one buffer and one capacity at most, within range, and no run that began ends as `Usage`.
 use Rattle.std.proofs.Common.{inl, inr, refl}
-use Rattle.copier.proofs.Runs.{never_usage, one_asked, went_so}
+use Rattle.std.proofs.lemmas.Result.{MatchResult-from_both}
+use Rattle.copier.proofs.Runs.{never_usage}
 use Rattle.copier.proofs.Moving.{IsBeginning-none}
-use Rattle.copier.proofs.SettingsFacts.{asked_in_range}
+use Rattle.copier.proofs.SettingsFacts.{asked_in_range, one_asked}
 use Rattle.copier.proofs.run.run_asked.Goals as goal
 
 pub run-answer-requires-clause-some : goal.run-answer-requires-clause-some
@@ -33,7 +34,7 @@ returns-clause-ran g c = λ ring cap asks.
     rw (is.0, is.1) (
       c.run-answer.result.0,
       c.of.ensures,
-      went_so _ _ c.run-answer.result.0 c.run-answer.ensures.copied c.run-answer.ensures.stopped,
+      MatchResult-from_both c.run-answer.result.0 _ _ c.run-answer.ensures.copied c.run-answer.ensures.stopped,
       c.run-answer.ensures.through,
     )
 
