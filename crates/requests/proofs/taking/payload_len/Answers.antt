@@ -93,9 +93,6 @@ reads-init g c =
       held = c.requires.held;
     }
 
-pub returns-then-is_large-clause-goes : goal.returns-then-is_large-clause-goes
-returns-then-is_large-clause-goes g c = (c.reads.invariant.payload, c.reads.invariant.goes)
-
 pub returns-then-is_large-clause-fails : goal.returns-then-is_large-clause-fails
 returns-then-is_large-clause-fails g c =
     let before = c.reads.invariant in
@@ -111,9 +108,6 @@ returns-then-is_large-clause-fails g c =
         },
       ),
     )
-
-pub returns-then-is_done-clause-goes : goal.returns-then-is_done-clause-goes
-returns-then-is_done-clause-goes g c = (c.reads.invariant.payload, c.reads.invariant.goes)
 
 pub returns-then-is_done-clause-small : goal.returns-then-is_done-clause-small
 returns-then-is_done-clause-small g c = tested _ _ _ _ c.reads.body.body.taken _ c.is_large.ensures
@@ -282,6 +276,3 @@ returns-in-Err-clause-writes g c =
     let read = rw c.in-Err.ensures.ends.0 at c.read_on-answer.ensures in
     asks_on (sent_till c.in-Err.e) c.requires.enters before.goes before.many
     (small g (goal.at.returns-in-Err-clause-writes g c).After-taken-in-reads) before.writes read.writes
-
-pub read_on-answer-requires-clause-whole : goal.read_on-answer-requires-clause-whole
-read_on-answer-requires-clause-whole g c = c.reads.invariant.goes.whole

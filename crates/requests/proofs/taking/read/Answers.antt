@@ -4,11 +4,6 @@ use Rattle.requests.proofs.Names.{body_rules, cases_lt, TookWholeBody}
 use Rattle.requests.proofs.Reading.{read_asked, read_fails, steady_gave}
 use Rattle.requests.proofs.taking.read.Goals as goal
 
-pub returns-in-Ok-clause-asked : goal.returns-in-Ok-clause-asked
-returns-in-Ok-clause-asked g c =
-    read_asked g.R.TellRead.remaining c.args.body.now c.read.new.self c.read.new.out (Ok c.in-Ok.count)
-    c.in-Ok.ensures.reads
-
 pub returns-in-Ok-clause-reads : goal.returns-in-Ok-clause-reads
 returns-in-Ok-clause-reads g c =
     let gave = c.in-Ok.ensures.reads.answers.1 in

@@ -31,10 +31,6 @@ returns-then-count-gt0-clause-writes g c =
     Prompt-read (AwaitsMore c.args.body.now) c.args.writer.now
     (inside_went c.read_shown-count.ensures.goes).order c.read_shown-count.ensures.unasked
 
-pub returns-then-is_done-clause-goes : goal.returns-then-is_done-clause-goes
-returns-then-is_done-clause-goes g c =
-    read_none c.read_shown-count.new.out (omega (arith, c.if-count-gt0.false)) c.read_shown-count.ensures.goes
-
 pub returns-then-is_done-clause-writes : goal.returns-then-is_done-clause-writes
 returns-then-is_done-clause-writes g c =
     Prompt-read (AwaitsMore c.args.body.now) c.args.writer.now
@@ -78,16 +74,6 @@ returns-in-Ok g c =
           (sym read.sent) comes;
     }
 
-pub returns-in-Err-clause-fails : goal.returns-in-Err-clause-fails
-returns-in-Err-clause-fails g c =
-    let still = steady_same (stream_in c.args.body.now)
-    (stream_in c.read_shown-count.new.body) c.read_shown-count.ensures.unasked in
-    (AsksFew-upto still.asks (omega arith), still.faults)
-
-pub returns-in-Err-clause-goes : goal.returns-in-Err-clause-goes
-returns-in-Err-clause-goes g c =
-    read_none c.read_shown-count.new.out (omega (arith, c.if-count-gt0.false)) c.read_shown-count.ensures.goes
-
 pub returns-in-Err-clause-writes : goal.returns-in-Err-clause-writes
 returns-in-Err-clause-writes g c =
     unsent_empty c.args.body.now c.read_shown-count.new.body
@@ -104,10 +90,6 @@ returns-then-count-gt0-clause-reads g c =
       more = inr (omega (arith, c.if-count-gt0.true));
     }
 
-pub returns-then-count-gt0-clause-asks : goal.returns-then-count-gt0-clause-asks
-returns-then-count-gt0-clause-asks g c = λ empty goes_on.
-    absurd (omega (arith, (c.read_shown-count.ensures.idle empty).0, c.if-count-gt0.true))
-
 pub returns-then-is_done-clause-reads : goal.returns-then-is_done-clause-reads
 returns-then-is_done-clause-reads g c =
     let same = c.read_shown-count.ensures.unasked in
@@ -116,8 +98,3 @@ returns-then-is_done-clause-reads g c =
       same = ap (λ l. l.reads.faults) same;
       more = inl (c.is_done.ensures.ended.0 c.if-is_done.true);
     }
-
-pub returns-then-is_done-clause-asks : goal.returns-then-is_done-clause-asks
-returns-then-is_done-clause-asks g c = λ empty goes_on.
-    absurd (goes_on (subst (λ x. TookWholeBody (body_rules x.body.coding) x.body) (c.read_shown-count.ensures.idle empty).1
-    (c.is_done.ensures.ended.0 c.if-is_done.true)))

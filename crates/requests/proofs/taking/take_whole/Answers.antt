@@ -4,10 +4,6 @@ use Rattle.requests.proofs.Names.{body_rules, handed_of, is_large, IsAwaited, Pr
 use Rattle.requests.proofs.Reading.{finishes, inside_went, left_there}
 use Rattle.requests.proofs.taking.take_whole.Goals as goal
 
-pub returns-in-Ok-finish-clause-limits : goal.returns-in-Ok-finish-clause-limits
-returns-in-Ok-finish-clause-limits g c = ap (λ d. d.0) c.in-Ok-finish.ensures.limits ∙ c.in-Ok.ensures.goes.1.limits
-    ∙ ap (λ x. x.limits) c.requires.enters.is
-
 pub returns-in-Ok-finish-clause-whole : goal.returns-in-Ok-finish-clause-whole
 returns-in-Ok-finish-clause-whole g c =
     let b = c.args.body in
@@ -32,17 +28,10 @@ returns-in-Ok-finish-clause-whole g c =
           (subst (λ x. is_large x.extent (length m.body.taken) len ≡ false) goes.said read.small)),
     )
 
-pub returns-in-Ok-finish-clause-steady : goal.returns-in-Ok-finish-clause-steady
-returns-in-Ok-finish-clause-steady g c = subst (ReadsSteadily 0 (stream_in c.args.body))
-    (sym (left_there c.in-Ok.ensures.ended c.in-Ok-finish.ensures.ends)) c.in-Ok.ensures.steady
-
 pub returns-in-Ok-finish-clause-writes : goal.returns-in-Ok-finish-clause-writes
 returns-in-Ok-finish-clause-writes g c = subst (λ u. Prompt g.W.Tell.log g.W.TellWrite.trace
     (IsAwaited c.args.body.said.extent) (stream_in c.args.body, c.args.writer.now) (Ok tt) (u, c.payload_len.new.writer))
     (sym (left_there c.in-Ok.ensures.ended c.in-Ok-finish.ensures.ends)) c.in-Ok.ensures.writes
-
-pub returns-in-Ok-finish-clause-room : goal.returns-in-Ok-finish-clause-room
-returns-in-Ok-finish-clause-room g c = c.in-Ok-finish.ensures.room ∙ c.in-Ok.ensures.goes.1.room
 
 pub unreachable-requires : goal.unreachable-requires
 unreachable-requires g c = finishes c.in-Ok.ensures.ended c.in-Err-finish.ensures.ends
