@@ -39,39 +39,6 @@ use Rattle.frames.specs.declared.fault.InputFault.TheVariants.{TooLong}
 use Rattle.frames.specs.declared.packing.Packing.{Packing}
 use Rattle.frames.proofs.PieceRuns.{outcome_ran}
 
--- the answer of the writer of pieces
-abbrev written : Result (Unit {0}) Error → WriteAnswer ℕ
-written (Ok _) = Ok tt
-written (Err e) = Err (Refusal.Io e)
-
--- a frame is taken in whole, behind one send at most
-pub takes_frame : {W : Type 0} (trace : W → W → Type 0) (s t : WriterState W Frames) (line : List ℕ)
-    {answer : Result (Unit {0}) Error} → WritesPiece trace (framed_out s.encoder.max) s line (written answer) t
-    → TakesAll (length (frame line)) (λ _. ⊥) s.writer (frame line) answer t.writer
-takes_frame trace s t line {answer} wrote = record {
-  taken = taken answer wrote;
-  fits = λ fit. fits answer wrote (omega (arith, fit, ap length (coded_frame s.encoder.max line)));
-  sends = λ full. sends answer wrote (omega (arith, full, some_frame line, ap length (coded_frame s.encoder.max line)));
-}
-  where
-    taken : (answer : Result (Unit {0}) Error) → WritesPiece trace (framed_out s.encoder.max) s line (written answer) t
-        → MatchResult answer (λ _. WritesInOrder s.writer (frame line) t.writer) (λ _. WritesInOrder s.writer [] t.writer)
-    taken (Ok _) w = rw append-nil at (PiecesTaken-frames trace s t (line ∷ []) w.went)
-    taken (Err e) w = w.went.in_order
-
-    fits : (answer : Result (Unit {0}) Error) → WritesPiece trace (framed_out s.encoder.max) s line (written answer) t
-        → length (coded (framed_out s.encoder.max) line) ≤ room s.writer → IsOk answer × (t.writer.log ≡ s.writer.log)
-    fits (Ok _) w there = (refl, (w.fits w.answers.0 there).1)
-    fits (Err e) w there = (let odd = (w.fits w.answers.0 there).0 in cc)
-
-    sends : (answer : Result (Unit {0}) Error) → WritesPiece trace (framed_out s.encoder.max) s line (written answer) t
-        → room s.writer < length (coded (framed_out s.encoder.max) line) → SendsOnce (λ _. ⊥) s.writer answer t.writer
-    sends (Ok _) w full =
-        let (left, sent) = (w.full w.answers.0 full).0 in
-        record { sending = Ok tt; left = left; sends = sent; ended = tt }
-    sends (Err e) w full =
-        record { sending = Err e; left = t.writer.block; sends = w.full w.answers.0 full; ended = (refl, refl) }
-
 -- a line that is held has a frame
 abbrev Fit : {R : Type 0} → LineState R → Option Span → Type 0
 Fit m held = IfSome held (λ span. length (bytes_at span m.pieces.reader.block.bytes) ≤ m.pieces.decoder.max)

@@ -1,29 +1,22 @@
 -- The reader's step answers, unless its end is known; a fault came behind bytes where more is left than before.
-use Rattle.std.proofs.Common.{IfSome, Ok, ap, arith, length, subst, sym, ◌∙◌}
-use Rattle.line_reader.specs.NextLine.{NextLine}
+use Rattle.std.proofs.Common.{ap, arith, length, sym, ◌∙◌}
 use Rattle.piece_filter.specs.PiecesCalls.{asked_ended}
-use Rattle.frames.specs.Words.{IsLent, load_answer, lined}
 use Rattle.frames.specs.Packing.{packing}
 use Rattle.frames.proofs.Packs.{asked_behind, asked_idle, asked_long, asked_more, asked_none}
 use Rattle.frames.proofs.packing.PackingFilter.ask.Goals as goal
 
 pub returns-in-Ok-Some : goal.returns-in-Ok-Some
 returns-in-Ok-Some g c =
-    let m = c.step.new.self in
+    let step = rw c.in-Ok-Some.field-0-is at c.in-Ok-Some.ensures in
     asked_more g.R.TellRead.remaining c.requires.ready c.requires.lacks.0
-    (sym c.has_ended.ensures.value ∙ c.if-has_ended.false) m c.in-Ok-Some.span
-    (subst (λ found. IfSome found (IsLent (lined m.pieces.decoder.max) m.pieces.handed m.pieces.reader.block.bytes))
-    c.in-Ok-Some.field-0-is c.in-Ok-Some.ensures.lends) c.requires.lacks.1
-    (subst (λ found. NextLine g.R.TellRead.remaining c.args.self.now.source (load_answer (Ok found) m.pieces) m)
-    c.in-Ok-Some.field-0-is c.in-Ok-Some.ensures.next)
+    (sym c.has_ended.ensures.value ∙ c.if-has_ended.false) c.step.new.self c.in-Ok-Some.span step.lends
+    c.requires.lacks.1 step.next
 
 pub returns-in-Ok-None : goal.returns-in-Ok-None
 returns-in-Ok-None g c =
-    let m = c.step.new.self in
     asked_none g.R.TellRead.remaining c.requires.ready c.requires.lacks.0
-    (sym c.has_ended.ensures.value ∙ c.if-has_ended.false) m
-    (subst (λ found. NextLine g.R.TellRead.remaining c.args.self.now.source (load_answer (Ok found) m.pieces) m)
-    c.in-Ok-None.field-0-is c.in-Ok-None.ensures.next)
+    (sym c.has_ended.ensures.value ∙ c.if-has_ended.false) c.step.new.self
+    (rw c.in-Ok-None.field-0-is at c.in-Ok-None.ensures.next)
 
 pub returns-in-Err-TooLong : goal.returns-in-Err-TooLong
 returns-in-Err-TooLong g c =

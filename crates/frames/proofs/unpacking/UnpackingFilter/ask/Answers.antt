@@ -1,25 +1,18 @@
 -- The reader's step answers; a fault came behind bytes where more is left than before.
-use Rattle.std.proofs.Common.{IfSome, Ok, ap, arith, length, subst}
-use Rattle.frame_reader.specs.Next.{Next}
-use Rattle.frames.specs.Words.{IsLent, load_answer, framed}
+use Rattle.std.proofs.Common.{ap, arith, length}
 use Rattle.frames.proofs.Unpacks.{asked_behind, asked_cut, asked_idle, asked_long, asked_more, asked_none}
 use Rattle.frames.proofs.unpacking.UnpackingFilter.ask.Goals as goal
 
 pub returns-in-Ok-Some : goal.returns-in-Ok-Some
 returns-in-Ok-Some g c =
-    let m = c.step.new.self in
-    asked_more g.R.TellRead.remaining c.requires.ready c.requires.lacks.0 m c.in-Ok-Some.span
-    (subst (λ found. IfSome found (IsLent (framed m.decoder.max) m.handed m.reader.block.bytes)) c.in-Ok-Some.field-0-is
-    c.in-Ok-Some.ensures.lends) c.requires.lacks.1
-    (subst (λ found. Next g.R.TellRead.remaining c.args.self.now.source (load_answer (Ok found) m) m) c.in-Ok-Some.field-0-is
-    c.in-Ok-Some.ensures.next)
+    let step = rw c.in-Ok-Some.field-0-is at c.in-Ok-Some.ensures in
+    asked_more g.R.TellRead.remaining c.requires.ready c.requires.lacks.0 c.step.new.self c.in-Ok-Some.span step.lends
+    c.requires.lacks.1 step.next
 
 pub returns-in-Ok-None : goal.returns-in-Ok-None
 returns-in-Ok-None g c =
-    let m = c.step.new.self in
-    asked_none g.R.TellRead.remaining c.requires.ready c.requires.lacks.0 m
-    (subst (λ found. Next g.R.TellRead.remaining c.args.self.now.source (load_answer (Ok found) m) m) c.in-Ok-None.field-0-is
-    c.in-Ok-None.ensures.next)
+    asked_none g.R.TellRead.remaining c.requires.ready c.requires.lacks.0 c.step.new.self
+    (rw c.in-Ok-None.field-0-is at c.in-Ok-None.ensures.next)
 
 pub returns-in-Err-TooLong : goal.returns-in-Err-TooLong
 returns-in-Err-TooLong g c =
