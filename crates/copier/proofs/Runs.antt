@@ -1,6 +1,5 @@
 -- What a copy between buffers that were empty says of the streams inside, by how it ended.
-use Rattle.std.proofs.Common.{◌≡◌, ◌∙◌, ◌<◌, ◌⊎◌, inl, inr, ℕ, Bool, List, length, Option, Some, Result, Ok, Err, IfOk, IfErr, MatchResult, IsErrAnd, ap, rules, sym, arith}
-use Rattle.std.specs.Prelude.{unwrap_or}
+use Rattle.std.proofs.Common.{◌≡◌, ◌∙◌, ◌<◌, ◌⊎◌, inl, inr, ℕ, List, length, Option, Result, Ok, Err, IfOk, IfErr, MatchResult, IsErrAnd, rules, sym, arith}
 use Rattle.std.specs.IoError.{error_kind}
 use Rattle.std.specs.declared.io.Error.{Error}
 use Rattle.std.specs.declared.io.ErrorKind.TheVariants.{WriteZero}

@@ -2,23 +2,14 @@
 use Rattle.std.proofs.Common.{◌≡◌, ℕ, ◌+◌, ◌≤◌, ◌<◌, List, length, true, false, Option, None, Some, Ok, Err, refl, sym, ap, subst, ◌∙◌, arith, ◌^◌, ◌⊎◌, inl, inr, [], ◌∷◌, ◌++◌, Result, append-nil, append_assoc, length-append}
 use Rattle.std.proofs.lemmas.Bool.{true≢false}
 use Rattle.std.proofs.lemmas.List.Elements.{All-nil}
-use Rattle.std.specs.Prelude.{IfSome, IsOk, MatchResult}
+use Rattle.std.specs.Prelude.{IfSome}
 use Rattle.std.specs.declared.io.ErrorKind.TheVariants.{OutOfMemory}
 use Rattle.redux_buffer.specs.declared.grow_error.GrowError.TheVariants.{Memory, TooLarge}
 use Rattle.redux_buffer.specs.declared.grow_error.GrowError.{GrowError}
 use Rattle.buffer_redux.specs.GrowError.{FitsWithin, kind_of}
-use Rattle.buffer_redux.specs.WriteParts.{room}
-use Rattle.codec.specs.Encoding.{coded}
-use Rattle.codec.specs.PieceWriter.{WriterState}
-use Rattle.codec.specs.WritePiece.{WriteAnswer, WritesPiece}
-use Rattle.codec.specs.declared.error.WritePieceError.TheVariants as Refusal
 use Rattle.forward.specs.PromptLaws.{RunsPromptly-none}
 use Rattle.forward.specs.StreamsLaws.{WriteGaveUp-so}
 use Rattle.forward.specs.declared.error.AskError.TheVariants as ask
-use Rattle.frame_reader.specs.Framed.{framed_out}
-use Rattle.frame_reader.specs.FramedLaws.{coded_frame}
-use Rattle.frame_reader.specs.WriteFrameLaws.{PiecesTaken-frames}
-use Rattle.frame_reader.specs.declared.frame.Frames.{Frames}
 use Rattle.line_reader.specs.Lines.{BeginsTooLong}
 use Rattle.line_reader.specs.NextLine.{LineAnswer, NextLine}
 use Rattle.line_reader.specs.NextLineLaws.{IsHanded-fits, NextLine-open, NextOpen, NextPiece-long, open_unended}
@@ -28,12 +19,11 @@ use Rattle.piece_filter.specs.PieceRuns.{Over, all_received}
 use Rattle.piece_filter.specs.Pieces.{HasEnded, IsReady, Keeps, PiecesEnd, piece_rules}
 use Rattle.piece_filter.specs.PiecesCalls as pieces
 use Rattle.piece_filter.specs.PiecesLaws.{coded_all, whole_text}
-use Rattle.frames.specs.Words.{All, AllSent, FilterAsks, Begins, bytes_at, Error, error_kind, Fits, FitsLine, ForwardAnswers, frame, frames, GaveNothing, Grammar, HasLines, HasPieces, IsLent, IsLine, IsOpen, IsPieces, lined, LineState, MetNoFault, OverCount, RanDry, rest, room_for, RunError, InputFault, Span, Stopped, StreamLog, WritesInOrder, with_newlines}
+use Rattle.frames.specs.Words.{All, AllSent, FilterAsks, Begins, bytes_at, Error, error_kind, Fits, FitsLine, ForwardAnswers, frame, frames, GaveNothing, Grammar, HasLines, HasPieces, IsLent, IsLine, IsOpen, IsPieces, lined, LineState, MetNoFault, OverCount, RanDry, rest, room_for, RunError, InputFault, Span, Stopped, StreamLog, with_newlines}
 use Rattle.programs.specs.Outcome.{Returns}
 use Rattle.frames.specs.Pack.{IsDue, PackedFirst, PackedLines, PackRan, Packs}
 use Rattle.frames.specs.Packing.{packing}
-use Rattle.frames.specs.PackingLaws.{all_ended, all_fit, packing_sound, some_frame}
-use Rattle.programs.specs.TakenIn.{SendsOnce, TakesAll}
+use Rattle.frames.specs.PackingLaws.{all_ended, all_fit, packing_sound}
 use Rattle.programs.specs.declared.error.RunError.TheVariants.{Io, Wrong}
 use Rattle.frames.specs.declared.fault.InputFault.TheVariants.{TooLong}
 use Rattle.frames.specs.declared.packing.Packing.{Packing}

@@ -1,6 +1,6 @@
 -- Answers, one after another.
 use Rattle.std.proofs.Common.{IfSome, ◌≡◌, ◌+◌, ℕ, Bool, true, false, List, [], ◌++◌, length, Option, None, Some, Result, Ok, Err, sym, subst, inl, inr, refl, arith}
-use Rattle.requests.proofs.Names.{All-nil, answered, AnswersEach, AnswersWhole, AsksFew, AwaitsBody, AwaitsHead, BadRequest, Begun-message, body_rules, Both, Buffered, CallsFor, coding_of, CameToBody, early_refusal, Ending, ending_of, ends_of, EndsUntaken, Error, faults_of, handed_of, HandsOutInOrder-none, InBody, Inside, InsideGoes, Io, is_known, is_large, IsAwaited, IsBody, IsLastTurn, IsMessage, IsPartTaken, IsToBeRefused, LargeBody, MayFollow, Message, OnlyInterrupts, Over, ParsedHead, Place, Prompt, Refusal, refusal, RunEndsBy, RunsToLast, sending_of, sent_till, StdPolicy, stream_at, stream_in, StreamLog, StreamWent-joins, StreamWent-none, TakeFails, TakesWhole, Truncated, Unbuffered, Unread, Untaken, WritesParts, Wrong}
+use Rattle.requests.proofs.Names.{All-nil, answered, AnswersWhole, AsksFew, AwaitsBody, BadRequest, Begun-message, body_rules, Both, Buffered, CallsFor, coding_of, CameToBody, early_refusal, Ending, ending_of, ends_of, EndsUntaken, Error, faults_of, handed_of, HandsOutInOrder-none, InBody, Inside, InsideGoes, Io, is_known, is_large, IsAwaited, IsBody, IsLastTurn, IsMessage, IsPartTaken, IsToBeRefused, LargeBody, MayFollow, Message, OnlyInterrupts, Over, ParsedHead, Place, Prompt, Refusal, refusal, RunEndsBy, RunsToLast, sending_of, sent_till, StdPolicy, stream_at, stream_in, StreamLog, StreamWent-joins, TakeFails, TakesWhole, Truncated, Unbuffered, Unread, Untaken, WritesParts, Wrong}
 use Rattle.redux_buffer.specs.Faults.{interrupt_limit}
 use Rattle.requests.specs.declared.Ending.TheVariants as stop
 use Rattle.requests.specs.declared.taking.Untaken.TheVariants.{Body, Large, Unsent}

@@ -1,6 +1,6 @@
 -- Which bodies are too large.
-use Rattle.std.proofs.Common.{◌≡◌, ℕ, ◌+◌, ◌-◌, ◌*◌, ◌^◌, ◌≤◌, ◌⊎◌, ◌++◌, ◌||◌, nat_lt, min, Bool, false, List, [], Option, drop, length, length-drop, take, take-append-drop, sym, ap, subst, inl, inr, ◌∙◌, refl, arith, append-nil}
-use Rattle.requests.proofs.Names.{body_rules, BodyCoding, cases_lt, coding_of, Enters, false≢true, AwaitsMore, handed_of, InBody, InsideGoes, is_large, IsAwaited, IsBodyReader, le-ltb, LeadsOpen, length-take-le, lt-ltb, max_payload, Side, usual, BodyPlace as Place}
+use Rattle.std.proofs.Common.{◌≡◌, ℕ, ◌+◌, ◌-◌, ◌*◌, ◌^◌, ◌≤◌, ◌⊎◌, ◌++◌, nat_lt, min, Bool, false, List, [], Option, drop, length, length-drop, take, take-append-drop, sym, ap, subst, inl, inr, ◌∙◌, refl, arith, append-nil}
+use Rattle.requests.proofs.Names.{body_rules, BodyCoding, cases_lt, coding_of, Enters, AwaitsMore, handed_of, InBody, InsideGoes, is_large, IsAwaited, IsBodyReader, LeadsOpen, length-take-le, max_payload, Side, usual, BodyPlace as Place}
 use Rattle.std.proofs.lemmas.Bool.{ltb-false, or_parts}
 use Rattle.std.proofs.lemmas.Bool.Decides.{nat_tests}
 use Rattle.body_reader.specs.Coding.{Leads, heeded}

@@ -1,6 +1,6 @@
 -- Turns, one after another: a message in each.
 use Rattle.std.proofs.Common.{true, ℕ, List, [], ◌∷◌, ◌++◌, Option, None, Some, IfSome, Ok, sym, ap, subst, inl, inr, ◌∙◌, arith, append_assoc, length-append, OnOk, Result}
-use Rattle.requests.proofs.Names.{All-append, AnswersEach, AnswersWhole, AwaitsBody, AwaitsHead, Before, Both, Buffered, CallsFor, Continues, Ending, Error, Inside, IsClosed, IsHeld, IsLastTurn, IsToBeRefused, MayFollow, Message, NoMoreAnswered, Over, ParsedHead, Place, Prompt, Refusal, Refuses, RunEndsBy, RunsToLast, sending_of, StdPolicy, stream_at, StreamLog, StreamWent, StreamWent-joins, Unbuffered, Unread}
+use Rattle.requests.proofs.Names.{All-append, AnswersEach, AnswersWhole, AwaitsBody, AwaitsHead, Before, Both, Buffered, CallsFor, Continues, Ending, Error, Inside, IsClosed, IsHeld, IsLastTurn, IsToBeRefused, MayFollow, Message, NoMoreAnswered, Over, ParsedHead, Place, Prompt, Refusal, Refuses, RunEndsBy, RunsToLast, sending_of, StdPolicy, stream_at, StreamLog, StreamWent, Unbuffered, Unread}
 use Rattle.requests.specs.declared.Ending.TheVariants as stop
 use Rattle.requests.proofs.Reading.{AsksFew-after, Closes-after, FailsInRead-still, joined}
 use Rattle.requests.proofs.Sending.{Prompt-held, Prompt-on, SendsForRoom-held, WritesParts-held}

@@ -1,7 +1,7 @@
 -- A head that is buffered is begun with nobody asked, and without one the reader stands where it stood.
 use Rattle.std.proofs.Common.{ap, Ok, subst}
 use Rattle.messages.specs.MessagesLaws.{Begun-went}
-use Rattle.requests.proofs.Names.{AwaitsHead, KeepsRoom, left_of}
+use Rattle.requests.proofs.Names.{AwaitsHead, left_of}
 use Rattle.requests.specs.Answers.{AnswersTurn}
 use Rattle.requests.proofs.Reading.{begun_enters, begun_steady}
 use Rattle.requests.proofs.Sending.{Prompt-held, Prompt-read}

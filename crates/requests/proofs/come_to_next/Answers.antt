@@ -1,6 +1,6 @@
 -- Where no head is settled what is held is sent first, so the stream is asked with nothing held; an interrupted read is made
 -- again, and all else that no head came behind ends the run.
-use Rattle.std.proofs.Common.{◌≡◌, ◌∙◌, ◌+◌, ◌<◌, ◌≤◌, ℕ, IsTrue, List, [], ◌∷◌, ◌++◌, true, append-nil, Option, None, Ok, Err, ap, length, subst, sym, inl, inr, refl, arith, length-append}
+use Rattle.std.proofs.Common.{◌≡◌, ◌∙◌, ◌+◌, ◌<◌, IsTrue, [], ◌∷◌, true, None, Ok, Err, ap, length, subst, sym, inl, inr, refl, arith, length-append}
 use Rattle.redux_buffer.specs.Faults.{interrupt_limit}
 use Rattle.requests.proofs.Names.{All-nil, AsksFew, AwaitsHead, BadHead, Before, Begun-went, Ending, faults_of, heads, left_of, MayFollow, MetEnd, MetEnd-once, never_cut, NextAnswer, NextPiece, NoFault, only_line_ends, OnlyInterrupts-one, Over, Prompt, refusal_of, rest, RunEndsBy, RunsToLast, same_room, sending_of, stream_in, StreamWent, StreamWent-joins, StreamWent-none, Unread, Unsent, usual}
 use Rattle.requests.proofs.Answering.{RunsToLast-one, RunsToLast-refused}

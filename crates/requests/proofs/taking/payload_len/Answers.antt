@@ -1,12 +1,11 @@
 -- The payload of each read joins what came before, which wasn't too large before the last read; one that was interrupted is made
 -- again, unless as many were in a row as the limit.
-use Rattle.std.proofs.Common.{◌≡◌, ◌∙◌, false, ℕ, zero, suc, ◌+◌, ◌-◌, ◌*◌, ◌<◌, ◌≤◌, ◌⊎◌, List, [], ◌∷◌, ◌++◌, length, take, Option, ap, append-nil, arith, inl, inr, length-append, refl, subst, sym, Err, IfErr, IfOk, Ok, OnOk, Result}
-use Rattle.body_reader.specs.Between.{handed_out}
+use Rattle.std.proofs.Common.{◌≡◌, ◌∙◌, false, ℕ, zero, suc, ◌+◌, ◌-◌, ◌*◌, ◌<◌, ◌≤◌, ◌⊎◌, List, [], ◌∷◌, ◌++◌, length, take, Option, ap, append-nil, arith, inl, inr, length-append, refl, subst, sym, Err, IfOk, Ok, Result}
 use Rattle.messages.specs.declared.head.ParsedHead.{ParsedHead}
 use Rattle.redux_buffer.specs.Faults.{IsInterrupt}
-use Rattle.requests.proofs.Names.{AwaitsMore, body_rules, Buffered, cases_lt, Enters, Error, FailsInRow, FailsOnce, faults_of, handed_of, InBody, Inside, InsideGoes, InsideGoes-joins, InsideGoes-none, Io, is_large, IsAwaited, IsToBeRefused, BadRequest, length-take-le, max_payload, nil_from_length, OnlyInterrupts-one, Prompt, OneReadFails, ReadsSome, ReadsSteadily, sent_till, sent_with, StdPolicy, stream_in, StreamLog, TakeFails, TookWholeBody, Truncated, Unbuffered, Untaken, usual, Wrong}
+use Rattle.requests.proofs.Names.{AwaitsMore, body_rules, Buffered, cases_lt, Enters, Error, FailsInRow, FailsOnce, faults_of, handed_of, InBody, InsideGoes, InsideGoes-joins, InsideGoes-none, Io, is_large, IsAwaited, length-take-le, max_payload, nil_from_length, OnlyInterrupts-one, Prompt, ReadsSteadily, sent_till, StdPolicy, stream_in, StreamLog, TookWholeBody, Unbuffered, Untaken, usual}
 use Rattle.codec.specs.AskedAgain.{InARow}
-use Rattle.requests.specs.declared.taking.Untaken.TheVariants.{Body, Large, Unsent}
+use Rattle.requests.specs.declared.taking.Untaken.TheVariants.{Body}
 use Rattle.requests.proofs.Interrupted.{again, body_came, body_none, calm, row_on}
 use Rattle.requests.proofs.Large.{awaited, few_counted, few_taken, newly_large, tested}
 use Rattle.requests.proofs.Reading.{AsksFew-after, AsksFew-upto, failed_behind, inside_went, steady_same, WhyUntaken-after}

@@ -1,10 +1,10 @@
 -- The stream is asked only where nothing buffered is payload, and what was held was sent then.
-use Rattle.std.proofs.Common.{◌≡◌, ◌∙◌, ℕ, [], ◌∷◌, ◌++◌, take, Option, List, Ok, Err, ap, arith, inl, inr, subst, sym}
+use Rattle.std.proofs.Common.{◌≡◌, ◌∙◌, ℕ, [], ◌∷◌, ◌++◌, take, Option, List, ap, arith, inl, inr, subst, sym}
 use Rattle.std.proofs.lemmas.Result.{IfErr-weaker, IfOk-weaker}
 use Rattle.body_reader.specs.Between.{handed_out}
-use Rattle.requests.proofs.Names.{AwaitsMore, body_rules, InBody, InsideGoes, InsideGoes-joins, Prompt, OneReadFails, ReadsSome, stream_in, TookWholeBody, Unbuffered, Untaken}
+use Rattle.requests.proofs.Names.{AwaitsMore, body_rules, InBody, InsideGoes, InsideGoes-joins, Prompt, OneReadFails, stream_in, TookWholeBody, Unbuffered, Untaken}
 use Rattle.requests.proofs.Coming.{comes_inside, unsent_empty}
-use Rattle.requests.proofs.Reading.{AsksFew-after, AsksFew-upto, inside_went, steadily, steady_same, WhyUntaken-after}
+use Rattle.requests.proofs.Reading.{AsksFew-after, inside_went, steadily, steady_same, WhyUntaken-after}
 use Rattle.requests.proofs.Sending.{Prompt-read}
 use Rattle.requests.proofs.taking.read_on.Goals as goal
 

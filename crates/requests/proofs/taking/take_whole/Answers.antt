@@ -1,6 +1,6 @@
 -- Where no more of the body comes it has ended, so it can be finished, and the stream is asked for nothing.
 use Rattle.std.proofs.Common.{◌≡◌, ◌++◌, ◌∙◌, ap, false, length, Ok, subst, sym}
-use Rattle.requests.proofs.Names.{body_rules, handed_of, is_large, IsAwaited, Prompt, ReadsSteadily, stream_in, TakesWhole, TookWholeBody, whole_body}
+use Rattle.requests.proofs.Names.{body_rules, handed_of, is_large, IsAwaited, Prompt, stream_in, TakesWhole, TookWholeBody, whole_body}
 use Rattle.requests.proofs.Reading.{finishes, inside_went, left_there}
 use Rattle.requests.proofs.taking.take_whole.Goals as goal
 
