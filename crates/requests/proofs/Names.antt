@@ -3,7 +3,7 @@ pub use Rattle.buffer_redux.specs.Asking.{AskedOver, AskedWhere}
 pub use Rattle.buffer_redux.specs.AskingLaws.{AskedOver-on}
 pub use Rattle.buffer_redux.specs.Buffered.{Buffered}
 pub use Rattle.buffer_redux.specs.StreamLog.{StreamLog}
-pub use Rattle.body_reader.specs.BodyReader.{Breaks, EndsEarly, handed_of, IsBodyReader, NoPayload, ReadsPayload, TookWholeBody}
+pub use Rattle.body_reader.specs.BodyReader.{Breaks, handed_of, IsBodyReader, NoPayload, ReadsPayload, TookWholeBody}
 pub use Rattle.body_reader.specs.Coding.{IsBody, LeadsOpen}
 pub use Rattle.body_reader.specs.declared.either.Side.{Side}
 pub use Rattle.buffer_redux.specs.Policy.{std_read_rules}
@@ -28,8 +28,8 @@ pub use Rattle.messages.specs.declared.error.BodyError.TheVariants.{Io, Truncate
 pub use Rattle.messages.specs.declared.head.Heads.{Heads}
 pub use Rattle.messages.specs.declared.head.ParsedHead.{ParsedHead}
 pub use Rattle.redux_buffer.specs.Faults.{FaultAfterInterrupts, FaultAfterInterrupts-after, OnlyInterrupts, OnlyInterrupts-joins, OnlyInterrupts-none, OnlyInterrupts-one}
-pub use Rattle.requests.specs.Answers.{AnswersEach, AnswersWhole, AsksFew, AwaitsBody, AwaitsHead, CallsFor, Closes, CameToBody, Continues, EndedBeforeHead, ending_of, ends_of, EndsUntaken, FailsInRead, FailsInRow, FailsOnce, faults_of, FewFailed, IsClosed, IsLastTurn, IsPartTaken, IsToBeRefused, KeepsRoom, MayFollow, NoMoreAnswered, NoneLeft, only_line_ends, OneReadFails, ReadsSome, ReadsSteadily, Refuses, RunEndsBy, RunsToLast, sending_of, sent_till, sent_with, stream_at, stream_in, TakeFails, TakesWhole}
-pub use Rattle.requests.specs.Large.{AwaitsMore, is_large, IsAwaited, max_payload, TurnsLarge}
+pub use Rattle.requests.specs.Answers.{AnswersEach, AnswersWhole, AsksFew, AwaitsBody, AwaitsHead, CallsFor, Closes, CameToBody, Continues, ending_of, ends_of, EndsUntaken, FailsInRead, FailsInRow, FailsOnce, faults_of, FewFailed, IsClosed, IsLastTurn, IsPartTaken, IsToBeRefused, MayFollow, NoMoreAnswered, NoneLeft, only_line_ends, OneReadFails, ReadsSteadily, Refuses, RunEndsBy, RunsToLast, sending_of, sent_till, stream_at, stream_in, TakeFails, TakesWhole}
+pub use Rattle.requests.specs.Large.{AwaitsMore, is_large, IsAwaited, max_payload}
 pub use Rattle.requests.specs.Sending.{AsksUnsettled, Both, IsHeld, IsStep, IsUnsettled, Prompt, SendsForRoom, SendsUnless, StepsAlong}
 pub use Rattle.requests.specs.Texts.{answered, called, early_refusal, is_called, is_known, refusal, refusal_of, waits}
 pub use Rattle.requests.specs.declared.Ending.{Ending}
@@ -39,7 +39,7 @@ pub use Rattle.requests.specs.declared.Place.TheVariants.{Before, Inside}
 pub use Rattle.requests.specs.declared.taking.Untaken.{Untaken}
 pub use Rattle.requests.specs.declared.writing.Refusal.{Refusal}
 pub use Rattle.requests.specs.declared.writing.Refusal.TheVariants.{BadRequest, LargeBody, Unknown, Unmet}
-pub use Rattle.std.proofs.lemmas.Bool.{cases_lt, false≢true, le-ltb, lt-ltb}
+pub use Rattle.std.proofs.lemmas.Bool.{cases_lt}
 pub use Rattle.std.proofs.lemmas.List.{length-take-le, nil_from_length}
 pub use Rattle.std.proofs.lemmas.List.Elements.{All-append, All-cons, All-nil}
 pub use Rattle.std.specs.declared.io.Error.{Error}
