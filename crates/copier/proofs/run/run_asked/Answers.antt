@@ -25,9 +25,6 @@ returns-in_default-clause-usage g c = inl (
       cc,
 )
 
-pub returns-in_default-clause-ran : goal.returns-in_default-clause-ran
-returns-in_default-clause-ran g c = λ ring cap asks. absurd (let told = (c.settings.ensures ring cap).1 asks in cc)
-
 pub returns-clause-ran : goal.returns-clause-ran
 returns-clause-ran g c = λ ring cap asks.
     let is = one_asked (ring, cap) (c.in-Some.ring, c.in-Some.cap) ((c.in-Some.ensures ring cap).1 asks) in
@@ -37,16 +34,6 @@ returns-clause-ran g c = λ ring cap asks.
       MatchResult-from_both c.run-answer.result.0 _ _ c.run-answer.ensures.copied c.run-answer.ensures.stopped,
       c.run-answer.ensures.through,
     )
-
-pub returns-clause-offers : goal.returns-clause-offers
-returns-clause-offers g c = λ ring cap asks.
-    let is = one_asked (ring, cap) (c.in-Some.ring, c.in-Some.cap) ((c.in-Some.ensures ring cap).1 asks) in
-    rw (is.0, is.1) c.run-answer.ensures.offers
-
-pub returns-clause-sends : goal.returns-clause-sends
-returns-clause-sends g c = λ ring cap asks.
-    let is = one_asked (ring, cap) (c.in-Some.ring, c.in-Some.cap) ((c.in-Some.ensures ring cap).1 asks) in
-    rw (is.0, is.1) c.run-answer.ensures.sends
 
 pub returns-clause-usage : goal.returns-clause-usage
 returns-clause-usage g c = inr (
