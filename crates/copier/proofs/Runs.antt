@@ -1,5 +1,5 @@
 -- What a copy between buffers that were empty says of the streams inside, by how it ended.
-use Rattle.std.proofs.Common.{◌≡◌, ◌∙◌, ◌<◌, ◌⊎◌, inl, inr, ℕ, List, length, Option, Result, Ok, Err, IfOk, IfErr, MatchResult, IsErrAnd, rules, sym, arith}
+use Rattle.std.proofs.Common.{◌≡◌, ◌∙◌, ◌<◌, ◌⊎◌, inl, inr, ℕ, List, length, Option, Result, Ok, Err, IfOk, IfErr, MatchResult, IsErrAnd, arith}
 use Rattle.std.specs.IoError.{error_kind}
 use Rattle.std.specs.declared.io.Error.{Error}
 use Rattle.std.specs.declared.io.ErrorKind.TheVariants.{WriteZero}
@@ -12,10 +12,7 @@ use Rattle.buffer_redux.specs.ReaderTells.{ReaderWent, reader_log}
 use Rattle.buffer_redux.specs.StreamLog.{StreamLog}
 use Rattle.buffer_redux.specs.WriterTells.{WriterCalled, WriterWent, writer_log}
 use Rattle.buffer_redux.specs.declared.policy.StdPolicy.{StdPolicy}
-use Rattle.programs.specs.Ending.{EndsAs}
 use Rattle.programs.specs.Streams.{EndsOnce, IsEmptyBuffer}
-use Rattle.programs.specs.declared.ending.Ending.{Ending}
-use Rattle.programs.specs.declared.ending.Ending.TheVariants.{Usage}
 use Rattle.copier.specs.Copy.{CopiesAll, Copied, HoldsBackAtMost, IsBeginning, RunStopped, most_held}
 use Rattle.copier.proofs.Holding.{copy_holds, flush_holds}
 use Rattle.copier.proofs.Moving.{copy_begins, copy_caused, copy_often, copy_once, copy_unflushed, flush_begins, flush_caused, flush_copied, flush_often, flushed_at_most, left_caused, offers_all}
@@ -131,8 +128,3 @@ module _ {R W : Type 0} (remaining : R → Option (List ℕ)) (tells : W → Str
         offers = offers_all went whole;
         sends = came.3;
       }
-
--- no run that began answers how it is used
-pub never_usage : (answer : Result ℕ Error) (ending : Ending) → EndsAs answer ending → ending ≡ Usage → ⊥
-never_usage (Ok total) ending ends is = let odd = sym ends ∙ is in cc
-never_usage (Err e) ending ends is = search rules

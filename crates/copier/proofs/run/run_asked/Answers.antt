@@ -1,7 +1,6 @@
--- Words ask for one buffer and one capacity at most, within range, and no run that began ends as `Usage`.
-use Rattle.std.proofs.Common.{inl, inr, refl}
+-- Words ask for one buffer and one capacity at most, within range.
+use Rattle.std.proofs.Common.{refl}
 use Rattle.std.proofs.lemmas.Result.{MatchResult-from_both}
-use Rattle.copier.proofs.Runs.{never_usage}
 use Rattle.copier.proofs.Moving.{IsBeginning-none}
 use Rattle.copier.proofs.SettingsFacts.{asked_in_range, one_asked}
 use Rattle.copier.proofs.run.run_asked.Goals as goal
@@ -15,16 +14,6 @@ run-answer-requires-clause-most g c = (asked_in_range _ _ _ ((c.in-Some.ensures 
 pub returns-in_default-clause-a_beginning : goal.returns-in_default-clause-a_beginning
 returns-in_default-clause-a_beginning g c = IsBeginning-none _ _
 
-pub returns-in_default-clause-usage : goal.returns-in_default-clause-usage
-returns-in_default-clause-usage g c = inl (
-  refl,
-  refl,
-  refl,
-  λ asks.
-      let told = (c.settings.ensures asks.0 asks.1).1 asks.2 in
-      cc,
-)
-
 pub returns-clause-ran : goal.returns-clause-ran
 returns-clause-ran g c = λ ring cap asks.
     let is = one_asked (ring, cap) (c.in-Some.ring, c.in-Some.cap) ((c.in-Some.ensures ring cap).1 asks) in
@@ -34,11 +23,3 @@ returns-clause-ran g c = λ ring cap asks.
       MatchResult-from_both c.run-answer.result.0 _ _ c.run-answer.ensures.copied c.run-answer.ensures.stopped,
       c.run-answer.ensures.through,
     )
-
-pub returns-clause-usage : goal.returns-clause-usage
-returns-clause-usage g c = inr (
-  never_usage c.run-answer.result.0 _ c.of.ensures,
-  c.in-Some.ring,
-  c.in-Some.cap,
-  (c.in-Some.ensures c.in-Some.ring c.in-Some.cap).0 refl,
-)

@@ -39,9 +39,6 @@ returns-in-Ok-eq0-clause-caused g c =
       );
     })
 
-pub returns-in-Ok-eq0-clause-flushes : goal.returns-in-Ok-eq0-clause-flushes
-returns-in-Ok-eq0-clause-flushes g c = c.in-Ok-eq0.ensures.keeps.flushes ∙ c.loop-at.invariant.flushes
-
 pub returns-in-Err-clause-taken : goal.returns-in-Err-clause-taken
 returns-in-Err-clause-taken g c = WritesInOrder-then _ c.loop-at.log _ _ c.loop-at.invariant.taken c.in-Err.ensures.in_order
 
@@ -54,9 +51,3 @@ returns-in-Err-clause-caused g c =
       | inr sent ↦ WriterStopped-after c.args.log.now.log.writes log last c.in-Err.e c.loop-at.invariant.grows
           (WriterStopped-send log last c.in-Err.e sent)
     ]
-
-pub returns-in-Err-clause-flushes : goal.returns-in-Err-clause-flushes
-returns-in-Err-clause-flushes g c = c.in-Err.ensures.keeps.flushes ∙ c.loop-at.invariant.flushes
-
-pub returns-clause-flushes : goal.returns-clause-flushes
-returns-clause-flushes g c = c.loop-at.invariant.flushes
