@@ -47,14 +47,3 @@ loop-row-preserved g c =
           rows-more g.R.Read.remaining c.loop-row.row-iterator.rdr c.next.new.self.rdr (fields_of c.in_ok-row.field-0)
           _ _ _ _ _ before.config so_far.1 so_far.2 step.0));
     }
-
-pub returns : goal.returns
-returns g c =
-    let before = c.loop-row.invariant in
-    let step = rw c.in-None.is at ((c.next.ensures.steps before.left before.trim).0 before.ready) in
-    IfSome_then (g.R.Read.remaining c.args.reader) before.reached (λ text so_far. (
-      c.loop-row.row-iterator.rdr.state,
-      so_far.0,
-      so_far.2,
-      rows-end g.R.Read.remaining c.loop-row.row-iterator.rdr c.next.new.self.rdr [] _ _ before.config so_far.1 step,
-    ))
