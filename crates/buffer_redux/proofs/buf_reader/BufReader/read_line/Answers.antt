@@ -7,7 +7,9 @@ use Rattle.redux_buffer.specs.Block.{IsBlock}
 use Rattle.buffer_redux.specs.ReadBehind.{FillsOn}
 use Rattle.buffer_redux.specs.ReadLine.{IsPart, no_text}
 use Rattle.buffer_redux.specs.ReadUntil.{FirstAt}
+use Rattle.buffer_redux.specs.BufReader.{ReadsInOrder}
 use Rattle.buffer_redux.specs.LineLaws.{ReadsLine-invalid, ReadsLine-known}
+use Rattle.buffer_redux.specs.ReaderLaws.{ReadsInOrder-none}
 use Rattle.buffer_redux.proofs.Searching.{first_through}
 use Rattle.buffer_redux.proofs.UntilSteps.{Shows, reaches, shows_none, stopped, through_length}
 use Rattle.buffer_redux.proofs.Utf8Fronts.{never_line}
@@ -80,7 +82,10 @@ returns-in-None-clause-invalid g c =
 
 pub returns-in_err-n-in-Some-clause-appended : goal.returns-in_err-n-in-Some-clause-appended
 returns-in_err-n-in-Some-clause-appended g c =
-    let line = returns-in_err-n-in-Some-clause-line g c in (line.handed, line.appended, line.front.in_order, line.count)
+    let a = c.in_err-n-in-Some.ensures.appends in
+    let p = err_from_is_err_and c.from_residual.result c.from_residual.ensures.1 in
+    let none = subst (ReadsInOrder c.args.self.now []) (sym a.1) (ReadsInOrder-none c.args.self.now) in
+    rw p.1 ([], a.0 ∙ sym (append-nil _), none, tt)
 
 pub returns-in_err-n-in-Some-clause-full : goal.returns-in_err-n-in-Some-clause-full
 returns-in_err-n-in-Some-clause-full g c =
