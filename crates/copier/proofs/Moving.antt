@@ -328,7 +328,10 @@ module _ {R P W Q : Type 0} {remaining : R → Option (List ℕ)} {trace : W →
 
         pub flushed_at_most : (e : Error) → Flushes v (Err e) v' → (v'.log.writes.flushes ≡ u.log.writes.flushes)
             ⊎ (OnlyFlushLeft s.log t.log u.log v'.log × (v'.log.writes.flushes ≡ u.log.writes.flushes + 1))
-        flushed_at_most e f = elim (counted (Err e) f.sending f.sent_log f.sends f.ended) [ inl made ↦ inr made | inr failed ↦ inl failed.1 ]
+        flushed_at_most e f = elim (counted (Err e) f.sending f.sent_log f.sends f.ended) [
+          | inl made ↦ inr made
+          | inr failed ↦ inl failed.1
+        ]
 
         pub flush_often : (e : Error) → Flushes v (Err e) v' → InterruptedOften e s.log t.log u.log v'.log
         flush_often e f is = elim (counted (Err e) f.sending f.sent_log f.sends f.ended) [

@@ -66,8 +66,8 @@ returns-in-Ok-next-clause-comes g c =
 module _ (g : _) (c : In-Err-next g) {answer : NextAnswer BadHead}
     (next : NextPiece g.R.TellRead.remaining (heads usual) c.asks.next answer c.in-Err-next.back) (none : next.bytes ≡ []) where
   gone : StreamWent g.R.TellRead.remaining (left_of c.args.requests) [] (left_of c.in-Err-next.back)
-  gone = StreamWent-joins g.R.TellRead.remaining (left_of c.args.requests) (left_of c.asks.next) (left_of c.in-Err-next.back) [] []
-      c.asks.invariant.went (nothing_went next none)
+  gone = StreamWent-joins g.R.TellRead.remaining (left_of c.args.requests) (left_of c.asks.next) (left_of c.in-Err-next.back) []
+      [] c.asks.invariant.went (nothing_went next none)
 
   asked : Prompt g.W.Tell.log g.W.TellWrite.trace AwaitsHead (left_of c.args.requests, c.args.writer.now) (Ok tt)
       (left_of c.in-Err-next.back, c.send_to_ask.new.writer)

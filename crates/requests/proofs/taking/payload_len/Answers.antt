@@ -72,7 +72,8 @@ one_more : (g : _) (c : After-taken-in-reads g) (e : Error) → FailsOnce (strea
     → FailsInRow g.R.Tell.log more (stream_in c.args.body.now) (stream_in c.read_on-answer.new.body)
 one_more g c e once goes row =
     let before = c.reads.invariant in
-    row_on before.reads (one_fault g c e once) row before.rows (sym c.get_ref.ensures.log ∙ ap g.R.Tell.log c.get_ref.ensures.inner) (λ some less.
+    row_on before.reads (one_fault g c e once) row before.rows
+    (sym c.get_ref.ensures.log ∙ ap g.R.Tell.log c.get_ref.ensures.inner) (λ some less.
     body_none goes (before.none some).0 once.none c.taken-had.ensures c.taken-in-reads.ensures
     (omega (arith, few_taken c.reads.len c.requires.enters before.goes (small g c))) less)
 
