@@ -52,6 +52,8 @@ NAMES = re.compile(r"(\./)?proofs/.*(has no field|is not in scope|has no `|was n
 # What stands before a reason that an earlier run found, and before one that is no refusal by a contract.
 KEPT = "kept: "
 UNREAD = "BAD EDIT: only a proof file names what the edit took away: "
+# What a function's line says where no proof is asked for, whatever its contract.
+UNCOVERED = "the borrow checker does not cover this function yet"
 # The parts of a function's line that tell of other functions.
 OTHERS = re.compile(r"(no proof: )?it (calls|passes|waits|uses) ")
 
@@ -292,6 +294,9 @@ def unproved(said):
 
 def unread(said, texts):
     """Whether the edited text didn't reach the prover."""
+    uncovered = next((it for it in said.split("\n") if it.startswith("fn ") and UNCOVERED in it), "")
+    if uncovered:
+        return uncovered
     at = [re.match(r"(?:\./)?(\S+?):\d+:\d+: error: (?:(`[^`]*`): )?(.*)", it) for it in said.split("\n")]
     odd = r"is not in scope|has no field|is no name|operand is missing|expected the end|cannot continue"
     edited = [it for it in texts if not it.endswith("/Answers.antt")]
