@@ -77,17 +77,9 @@ module _ {R W : Type 0} {s : Encoding R W} (ready : MayEncode s) (trace : W → 
           length-append (size_digits (length payload)) (line_end (payload ++ line_end [])),
           length-append payload (line_end []),
         ) in
-        let left : length t.block.bytes ≡ 0 = omega (
-          arith,
-          whole,
-          len,
-          ap (λ l. length l.reads.given) told,
-          ap length gone.equal,
-          ap length gone.given,
-          length-append payload t.block.bytes,
-          length-append s.source.block.bytes gone.got,
-          length-append s.source.log.reads.given gone.got,
-        ) in
+        let same_given = ap (λ l. length l.reads.given) told in
+        let left : length t.block.bytes ≡ 0 =
+        omega (arith, whole, len, same_given, ap length gone.equal, ap length gone.given, length-append {A = ℕ}) in
         let wrote = TakesAll-passed s.target.writer c.writer around 0 {Other = λ _. ⊥} takes bytes (omega (arith, bytes, some))
             (λ _. chunks.went.capacity) (omega (arith, chunks.went.capacity)) in
         let small = All-cons (λ payload. length payload ≤ 8192) payload []

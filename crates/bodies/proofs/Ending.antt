@@ -36,8 +36,10 @@ module _ {W : Type 0} (tells : W → StreamLog) (trace : W → W → Type 0) whe
       let writes = WritesOn-unflushed b.writer c.writer [] sent.in_order sent.not_flushed in
       let row = unsent_row b.writer c.writer sent in
       let more = length-append b.writer.log.writes.received writes.received.more in
-      let answers : EndAnswers b.writer [] (Err (Write e)) c.writer =
-      (inr refl, (e, refl, sent.caused, λ is. inl (elim row.ended [ inl failed ↦ failed.1 is | inr refused ↦ absurd refused.1 ]))) in
+      let answers : EndAnswers b.writer [] (Err (Write e)) c.writer = (
+        inr refl,
+        (e, refl, sent.caused, λ is. inl (elim row.ended [ inl failed ↦ failed.1 is | inr refused ↦ absurd refused.1 ])),
+      ) in
       search rules
 
   -- the end of a body, and a flush

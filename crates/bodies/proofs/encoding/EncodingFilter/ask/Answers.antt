@@ -6,7 +6,8 @@ use Rattle.bodies.proofs.encoding.EncodingFilter.ask.Goals as goal
 pub returns-in-Ok : goal.returns-in-Ok
 returns-in-Ok g c =
     came_some c.requires.ready _ g.met.W.TellWrite.trace_none g.met.W.TellWrite.trace_joins c.requires.lacks
-    c.buffer.ensures.whole c.read_into_buf.ensures.in_order c.in-Ok.field-0 (omega (arith, c.in-Ok.field-0-test)) c.in-Ok.ensures.reads
+    c.buffer.ensures.whole c.read_into_buf.ensures.in_order c.in-Ok.field-0 (omega (arith, c.in-Ok.field-0-test))
+    c.in-Ok.ensures.reads
 
 pub returns-in-Err : goal.returns-in-Err
 returns-in-Err g c =
