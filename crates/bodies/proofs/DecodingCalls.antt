@@ -74,7 +74,7 @@ module _ {R W : Type 0} (remaining : R → Option (List ℕ)) {s : Decoding R W}
         omega (arith, some, length-take-le u.held u.piece.items (omega (arith, held.ready.held, held.ready.room))) in
         let all : length (piece ++ []) ≡ length piece = ap length (append-nil piece) in
         let wrote = rw held.still at (TakesAll-passed u.target v 0 0 {Other = λ _. ⊥} takes (omega (arith, all))
-            (omega (arith, all, long)) (λ _. same) (omega (arith, same))) in
+        (omega (arith, all, long)) (λ _. same) (omega (arith, same))) in
         let order = rw held.still at takes.taken in
         let handed = held.hands.order ∙ sym (append-nil piece) ∙ sym (append-nil (piece ++ [])) in
         let more = taken_more u.target v (piece ++ []) takes.taken in

@@ -155,8 +155,13 @@ module _ {R W : Type 0} (trace : W → W → Type 0) (first : Buffered R StdPoli
     not_ended count over [] t.target.writer still refl,
     inl (record {
       other = is.1;
-      large = omega (arith, large, over.all, each_some over.payloads (All-weaker IsCarried (λ l. 0 < length l)
-          (λ l carried. carried.0) over.payloads over.moves.takes.carried));
+      large = omega (
+        arith,
+        large,
+        over.all,
+        each_some over.payloads (All-weaker IsCarried (λ l. 0 < length l)
+            (λ l carried. carried.0) over.payloads over.moves.takes.carried),
+      );
       met = met;
     }),
   )

@@ -81,9 +81,9 @@ module _ {R W : Type 0} {s : Encoding R W} (ready : MayEncode s) (trace : W → 
         let left : length t.block.bytes ≡ 0 =
         omega (arith, whole, len, same_given, ap length gone.equal, ap length gone.given, length-append {A = ℕ}) in
         let wrote = TakesAll-passed s.target.writer c.writer around 0 {Other = λ _. ⊥} takes bytes (omega (arith, bytes, some))
-            (λ _. chunks.went.capacity) (omega (arith, chunks.went.capacity)) in
+        (λ _. chunks.went.capacity) (omega (arith, chunks.went.capacity)) in
         let small = All-cons (λ payload. length payload ≤ 8192) payload []
-            (omega (arith, within, len, held.fits, ready.capacity)) (All-nil (λ payload. length payload ≤ 8192)) in
+        (omega (arith, within, len, held.fits, ready.capacity)) (All-nil (λ payload. length payload ≤ 8192)) in
         let order = subst (λ l. ReadsInOrder s.source l t) (sym (append-nil payload)) gone in
         let more = taken_more s.target.writer c.writer _ takes.taken in
         let answers : PassAnswers chunking s (Ok true) (record s { source = t; target = c }) =

@@ -66,7 +66,7 @@ module _ {R W : Type 0} (remaining : R → Option (List ℕ)) where
       let before = first.source.taken in
       let payload : handed_of m ≡ handed_of first.source ++ concat p =
       went.handed ∙ ap (λ l. handed_of first.source ++ l)
-          (rw (none_held first fresh.held, none_held s lacks, append-nil) at moves.hands.order) in
+      (rw (none_held first fresh.held, none_held s lacks, append-nil) at moves.hands.order) in
       elim (asked_after due m.reader t.source.reader asks first.source.reader went.wire fresh.buffered went.along.in_order
       gives.give) [
         | inl same ↦ inl same

@@ -44,7 +44,7 @@ module _ {R : Type 0} (remaining : R → Option (List ℕ)) where
       grows = elim (cases_lt 0 (length s.left)) [
         | inl some ↦ subst (λ u. ReadLogGrows s.log.reads u.log.reads) (sym (left some).1) (ReadLogGrows-none s.log.reads)
         | inr none ↦ subst (λ l. ReadLogGrows s.log.reads l.reads) (sym (asked (omega (arith, none))).1)
-          (ReadLogGrows-read s.log slice answer)
+            (ReadLogGrows-read s.log slice answer)
       ];
     };
     left = left;

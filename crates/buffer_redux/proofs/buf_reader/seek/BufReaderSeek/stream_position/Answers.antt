@@ -8,6 +8,6 @@ use Rattle.buffer_redux.proofs.buf_reader.seek.BufReaderSeek.stream_position.Goa
 pub returns-clause-asks : goal.returns-clause-asks
 returns-clause-asks g c =
     let says : MatchResult c.match-checked_sub.result (λ n. n + length c.self.inside.buf.bytes ≡ c.in_ok-at.at)
-        (λ e. (c.in_ok-at.at < length c.self.inside.buf.bytes) × (error_kind e ≡ InvalidData)) =
+    (λ e. (c.in_ok-at.at < length c.self.inside.buf.bytes) × (error_kind e ≡ InvalidData)) =
     grind (arith, common_steps) in
     rw (← c.self.view_is) (Ok c.in_ok-at.at, c.in_ok-at.ensures.told, says)
