@@ -211,6 +211,8 @@ chunk="1;$(zeros 250)\\\\r\\\\nx\\\\r\\\\n"
 row "${P}$C\r\n$(many 65 "$chunk")0;$(zeros 63)\r\n\r\n$G" '200:65 200:0'
 row "${P}$C\r\n$(many 65 "$chunk")0;$(zeros 64)\r\n\r\n$G" '413'
 row "${P}$C\r\n$(many 2000 "$chunk")0\r\n\r\n$G" '413'
+row "${P}$C\r\n$(many 65 "$chunk")0;$(zeros 63)\r\n: x\r\n\r\n$G" '400'
+row "${P}$C\r\n$(many 65 "$chunk")0;$(zeros 66)\r\n: x\r\n\r\n$G" '413'
 row "${P}$C\r\n$(many 20000 '1\\r\\nx\\r\\n')0\r\n\r\n$G" '200:20000 200:0'
 row "${P}Content-Length: 1099511627776\r\n\r\n$G" '400'
 row "${P}Content-Length: 1099511627777\r\n\r\n$G" '413'

@@ -1,7 +1,9 @@
 -- Answers, one after another.
-use Rattle.std.proofs.Common.{IfSome, ◌≡◌, ◌+◌, ℕ, Bool, true, false, List, [], ◌++◌, length, Option, None, Some, Result, Ok, Err, sym, subst, inl, inr, refl, arith}
+use Rattle.std.proofs.Common.{IfSome, ◌≡◌, ◌⊎◌, ◌+◌, ℕ, Bool, true, false, List, [], ◌++◌, length, Option, None, Some, Result, Ok, Err, sym, subst, inl, inr, refl, arith}
 use Rattle.requests.proofs.Names.{All-nil, answered, AnswersWhole, AsksFew, AwaitsBody, BadRequest, Begun-message, body_rules, Both, Buffered, CallsFor, coding_of, CameToBody, early_refusal, Ending, ending_of, ends_of, EndsUntaken, Error, faults_of, handed_of, HandsOutInOrder-none, InBody, Inside, InsideGoes, Io, is_known, is_large, IsAwaited, IsBody, IsLastTurn, IsMessage, IsPartTaken, IsToBeRefused, LargeBody, MayFollow, Message, OnlyInterrupts, Over, ParsedHead, Place, Prompt, Refusal, refusal, RunEndsBy, RunsToLast, sending_of, sent_till, StdPolicy, stream_at, stream_in, StreamLog, StreamWent-joins, TakeFails, TakesWhole, Truncated, Unbuffered, Unread, Untaken, WritesParts, Wrong}
 use Rattle.redux_buffer.specs.Faults.{interrupt_limit}
+use Rattle.requests.specs.Answers.{IsTorn}
+use Rattle.requests.specs.Large.{too_large, TurnsLarge}
 use Rattle.requests.specs.declared.Ending.TheVariants as stop
 use Rattle.requests.specs.declared.taking.Untaken.TheVariants.{Body, Large, Unsent}
 use Rattle.requests.proofs.Reading.{AsksFew-after, FailsInRead-still, begun_head, begun_usual, is_part, joined, part_went}
@@ -69,7 +71,8 @@ module _ {W : Type 0} {tells : W → StreamLog} {trace : W → W → Type 0} whe
         refused_torn : {told : R → StreamLog} {v w' : Buffered W StdPolicy} (why : Refusal) (answer : Result (Unit {0}) Error)
             → AsksFew (interrupt_limit + 1) (stream_in b) (stream_in t)
             → OnlyInterrupts (faults_of (stream_in b)) (faults_of (stream_in t))
-            → IsToBeRefused (ends_of (stream_in b)) (Inside t) why
+            → ((why ≡ LargeBody) × TurnsLarge t)
+            ⊎ ((why ≡ BadRequest) × (too_large t ≡ false) × IsTorn (ends_of (stream_in b)) t)
             → Prompt tells trace (IsAwaited b.said.extent) (stream_in b, u) (Ok tt) (stream_in t, v)
             → WritesParts tells trace v (refusal why false) answer w'
             → RunsToLast remaining tells trace told s w (Inside t) (ending_of answer) w'
@@ -77,7 +80,8 @@ module _ {W : Type 0} {tells : W → StreamLog} {trace : W → W → Type 0} whe
             RunsToLast-refused (b.head ++ goes.went.wire) (handed_of t.body) (Inside t) (is_part come goes)
             (AsksFew-after come.reads few (omega arith)) why answer
             (part_went come goes, inr ((stream_in b, u), called_here, (v, awaits_here (Ok tt) v on, parts)))
-            (subst (λ n. IsToBeRefused n (Inside t) why) come.reads.ends torn)
+            (subst (λ n. IsToBeRefused n (Inside t) why) come.reads.ends
+            (inr (still (λ h x. early_refusal (is_known h) x ≡ None) open', torn)))
             (joined come.reads (stream_in t) reads)
 
         -- nothing is refused, and the run ends so
@@ -95,15 +99,15 @@ module _ {W : Type 0} {tells : W → StreamLog} {trace : W → W → Type 0} whe
             → TakeFails told (stream_in b) why t
             → Prompt tells trace (IsAwaited b.said.extent) (stream_in b, u) (sent_till why) (stream_in t, v)
             → EndsUntaken tells trace v why ending w' → RunsToLast remaining tells trace told s w (Inside t) ending w'
-        torn_answered (Body (Wrong why)) ending (few, (reads, torn)) on (answer, is, parts) =
-            rw is (refused_torn BadRequest answer few reads torn on parts)
-        torn_answered (Body (Truncated due)) ending (few, (reads, torn)) on (answer, is, parts) =
-            rw is (refused_torn BadRequest answer few reads torn on parts)
+        torn_answered (Body (Wrong why)) ending (few, (reads, torn, small)) on (answer, is, parts) =
+            rw is (refused_torn BadRequest answer few reads (inr (refl, small, torn)) on parts)
+        torn_answered (Body (Truncated due)) ending (few, (reads, torn, small)) on (answer, is, parts) =
+            rw is (refused_torn BadRequest answer few reads (inr (refl, small, torn)) on parts)
         torn_answered (Body (Io e)) ending (few, fails) on (is, same) =
             rw (is, same)
             (stops (Unread e) few on (FailsInRead-still come.reads e (stream_in t) fails, All-nil (MayFollow true), refl))
         torn_answered Large ending (few, (reads, large)) on (answer, is, parts) =
-            rw is (refused_torn LargeBody answer few reads (inr (inl (refl, large))) on parts)
+            rw is (refused_torn LargeBody answer few reads (inl (refl, large)) on parts)
         torn_answered (Unsent e) ending (few, reads) on (is, same) =
             rw (is, same)
             (stops (stop.Unsent e) few on (joined come.reads (stream_in t) reads, inl (All-nil (MayFollow true))))

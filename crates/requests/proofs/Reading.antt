@@ -1,5 +1,5 @@
 -- What reads of a run met.
-use Rattle.std.proofs.Common.{◌≡◌, ℕ, ◌+◌, ◌≤◌, true, false, List, [], ◌∷◌, ◌++◌, All, length, Option, None, Some, Result, Ok, Err, sym, ap, subst, inl, inr, ◌∙◌, refl, arith, append_assoc, append-nil, length-append}
+use Rattle.std.proofs.Common.{◌≡◌, ℕ, ◌+◌, ◌≤◌, Bool, true, false, List, [], ◌∷◌, ◌++◌, All, length, Option, None, Some, Result, Ok, Err, sym, ap, subst, inl, inr, ◌∙◌, refl, arith, append_assoc, append-nil, length-append}
 use Rattle.requests.proofs.Names.{All-append, All-nil, AskedWhere, AsksFew, BadHead, BadRequest, Begun, body_error, body_rules, BodyCoding, BodyPlace, Breaks, Buffered, Closes, CameToBody, coding_of, ends_of, Enters, Error, FailsInRead, FailsToFinish, FaultAfterInterrupts, FaultAfterInterrupts-after, faults_of, FewFailed, FinishesBody, handed_of, Heads, heads, InBody, Inside, InsideGoes, IsBodyReader, IsHead, Io, IsOpen, IsPartTaken, IsToBeRefused, LeadsOpen, left_of, Malformed, MayFollow, Message, MetEnd, MetEnd-once, nil_from_length, NextAnswer, NextAnswers, NextPiece, NoEnd, NoFault, NoPayload, one_ahead, OnlyInterrupts, OnlyInterrupts-joins, OnlyInterrupts-none, PiecesWent-stream, Reader, ReaderState, OneReadFails, ReadsAlong-stream, ReadsPayload, ReadsSteadily, Side, std_read_rules, stream_in, StreamWent, StdPolicy, StreamLog, StreamWent-joins, TellsWhy, TookWholeBody, Truncated, Unbuffered, unbuffered, Untaken, usual, WhyNone, Wrong}
 use Rattle.body_reader.specs.BetweenLaws.{AsksWithRoom-open}
 use Rattle.body_reader.specs.BodyReaderLaws.{BodyWent-leads}
@@ -9,7 +9,8 @@ use Rattle.body_reader.specs.declared.either.Side.TheVariants as side
 use Rattle.body_reader.specs.declared.error.BodyError.TheVariants as unread
 use Rattle.codec.specs.declared.NextError.TheVariants as why
 use Rattle.messages.specs.declared.error.BodyError.{BodyError}
-use Rattle.requests.specs.Answers.{WhyUntaken}
+use Rattle.requests.specs.Answers.{IsTorn, unless_large, WhyUntaken}
+use Rattle.requests.specs.Large.{IsNewlyLarge, too_large}
 use Rattle.requests.specs.declared.taking.Untaken.TheVariants.{Body, Large, Unsent}
 
 -- no fault was met, or one
@@ -143,16 +144,29 @@ module _ {S : Type 0} {s m : Unbuffered S} {before : ℕ} (steady : ReadsSteadil
   }
 
 -- why a body isn't taken from here on is so of what was met since
-pub WhyUntaken-after : {S : Type 0} {s m : Unbuffered S} {row : ℕ} {Fails Fails' : Error → Type 0} → ReadsSteadily row s m
-    → (e : Untaken) → (b : InBody S) → ((fault : Error) → e ≡ Body (Io fault) → Fails fault → Fails' fault)
-    → WhyUntaken Fails m e b → WhyUntaken Fails' s e b
-WhyUntaken-after steady (Body (Io e)) b so fails = so e refl fails
-WhyUntaken-after steady (Body (Wrong why)) b so (met, torn) =
-    (joined steady (stream_in b) met, subst (λ n. IsToBeRefused n (Inside b) BadRequest) steady.ends torn)
-WhyUntaken-after steady (Body (Truncated due)) b so (met, torn) =
-    (joined steady (stream_in b) met, subst (λ n. IsToBeRefused n (Inside b) BadRequest) steady.ends torn)
-WhyUntaken-after steady Large b so (met, large) = (joined steady (stream_in b) met, large)
-WhyUntaken-after steady (Unsent e) b so met = joined steady (stream_in b) met
+pub WhyUntaken-after : {S : Type 0} {s m : Unbuffered S} {row : ℕ} {Fails Fails' : Error → Type 0} (Torn : Type 0)
+    → ReadsSteadily row s m → (e : Untaken) → (b : InBody S)
+    → ((fault : Error) → e ≡ Body (Io fault) → Fails fault → Fails' fault)
+    → WhyUntaken Fails Torn m e b → WhyUntaken Fails' Torn s e b
+WhyUntaken-after Torn steady (Body (Io e)) b so fails = so e refl fails
+WhyUntaken-after Torn steady (Body (Wrong why)) b so (met, torn, is) =
+    (joined steady (stream_in b) met, subst (λ n. IsTorn n b) steady.ends torn, is)
+WhyUntaken-after Torn steady (Body (Truncated due)) b so (met, torn, is) =
+    (joined steady (stream_in b) met, subst (λ n. IsTorn n b) steady.ends torn, is)
+WhyUntaken-after Torn steady Large b so (met, large) = (joined steady (stream_in b) met, large)
+WhyUntaken-after Torn steady (Unsent e) b so met = joined steady (stream_in b) met
+
+-- and what is too large is called that
+pub unless_too_large : {S : Type 0} (Fails : Error → Type 0) (s : Unbuffered S) (b : InBody S) (large : Bool)
+    → too_large b ≡ large → IsNewlyLarge b → (e : Untaken) → WhyUntaken Fails (Unit {0}) s e b
+    → WhyUntaken Fails (too_large b ≡ false) s (unless_large e large) b
+unless_too_large Fails s b large is fresh (Body (Io e)) fails = fails
+unless_too_large Fails s b true is fresh (Body (Wrong why)) (met, torn, any) = (met, record { large = is; fresh = fresh })
+unless_too_large Fails s b true is fresh (Body (Truncated due)) (met, torn, any) = (met, record { large = is; fresh = fresh })
+unless_too_large Fails s b false is fresh (Body (Wrong why)) (met, torn, any) = (met, torn, is)
+unless_too_large Fails s b false is fresh (Body (Truncated due)) (met, torn, any) = (met, torn, is)
+unless_too_large Fails s b large is fresh Large why = why
+unless_too_large Fails s b large is fresh (Unsent e) why = why
 
 pub steadily : {S : Type 0} {s m t : Unbuffered S} → ReadsSteadily 0 s m → ReadsSteadily 0 m t → ReadsSteadily 0 s t
 steadily first then = steady_on first then (omega (arith, first.asks.few, then.asks.few))
@@ -237,13 +251,13 @@ module _ {S : Type 0} (remaining : S → Option (List ℕ)) (s t : InBody S) (ou
   none_comes : (place : Side ℕ BodyPlace) (why : WhyNone) → AsksFew 1 (stream_in s) (stream_in t)
       → NoPayload (body_rules t.body.coding) s.body why t.body → OneReadFails (stream_in s) (Body (body_error place why)) t
   none_comes place (unread.Wrong (side.First none) right) few fails =
-      (few, (none_met fails.1.faults, inl (refl, inl (side.First none, fails.2))))
+      (few, (none_met fails.1.faults, inl (side.First none, fails.2), tt))
   none_comes place (unread.Wrong (side.Second name) right) few fails =
-      (few, (none_met fails.1.faults, inl (refl, inl (side.Second name, fails.2))))
+      (few, (none_met fails.1.faults, inl (side.Second name, fails.2), tt))
   none_comes (side.First due) (unread.Truncated right) few fails =
-      (few, (none_met fails.1.0, inl (refl, inr (omega (arith, fails.1.1), fails.2))))
+      (few, (none_met fails.1.0, inr (omega (arith, fails.1.1), fails.2), tt))
   none_comes (side.Second q) (unread.Truncated right) few fails =
-      (few, (none_met fails.1.0, inl (refl, inr (omega (arith, fails.1.1), fails.2))))
+      (few, (none_met fails.1.0, inr (omega (arith, fails.1.1), fails.2), tt))
   none_comes place (unread.Io e) few fails = (
     few,
     record {

@@ -34,7 +34,7 @@ use Rattle.requests.specs.declared.Ending.TheVariants as stop
 use Rattle.requests.specs.declared.Ending.TheVariants.{Over, Unread}
 use Rattle.requests.specs.declared.taking.Untaken.{Untaken}
 use Rattle.requests.specs.declared.taking.Untaken.TheVariants.{Body, Large, Unsent}
-use Rattle.requests.specs.Large.{IsAwaited, TurnsLarge, is_large, usual_rules}
+use Rattle.requests.specs.Large.{IsAwaited, TurnsLarge, is_large, too_large, usual_rules}
 use Rattle.requests.specs.Sending.{Both, SendsForRoom, SendsHeld, Prompt}
 use Rattle.requests.specs.Texts.{answered, called, early_refusal, is_called, is_known, refusal, refusal_of}
 
@@ -104,18 +104,22 @@ KeepsRoom room result = MatchResult result (λ next. room_of next.reader.block �
 abbrev pub only_line_ends : List ℕ → Bool
 only_line_ends bytes = prefix_len is_end bytes == length bytes
 
+-- the next byte of the body is wrong, or the stream ended before it was complete, where so many ends were met before
+abbrev pub IsTorn : {S : Type 0} → ℕ → InBody S → Type 0
+IsTorn ends b = ((name : Side (Unit {0}) Malformed) × Breaks (body_rules b.body.coding) name b.body)
+    ⊎ ((ends < ends_of (stream_in b)) × EndsEarly (body_rules b.body.coding) b.body)
+
 -- what comes is to be refused so, where so many ends were met before: no head begins what is left, for that reason, or the stream
--- ended in one; or the next byte of the body is wrong, or the stream ended before that was complete, or what was taken of it is
--- too large; or its head settles that, and nothing was taken behind that
+-- ended in one; or the head settles that, and nothing was taken behind it; or else what was taken of the body is too large, or
+-- is not, and the body is torn
 abbrev pub IsToBeRefused : {S : Type 0} → ℕ → Place S → Refusal → Type 0
 IsToBeRefused ends (Before requests) why = ((e : BadHead) × (heads usual).wrong (rest requests) e × (why ≡ refusal_of e))
     ⊎ ((why ≡ BadRequest) × (ends < ends_of (left_of requests)) × (only_line_ends (rest requests) ≡ false)
     × IsOpen (heads usual) (rest requests))
-IsToBeRefused ends (Inside body) why = ((why ≡ BadRequest)
-    × (((name : Side (Unit {0}) Malformed) × Breaks (body_rules body.body.coding) name body.body)
-    ⊎ ((ends < ends_of (stream_in body)) × EndsEarly (body_rules body.body.coding) body.body)))
-    ⊎ ((why ≡ LargeBody) × TurnsLarge body)
-    ⊎ ((early_refusal (is_known body.head) body.said ≡ Some why) × (body.body.taken ≡ []))
+IsToBeRefused ends (Inside body) why =
+    ((early_refusal (is_known body.head) body.said ≡ Some why) × (body.body.taken ≡ []))
+    ⊎ ((early_refusal (is_known body.head) body.said ≡ None) × (((why ≡ LargeBody) × TurnsLarge body)
+    ⊎ ((why ≡ BadRequest) × (too_large body ≡ false) × IsTorn ends body)))
 
 -- the stream ended, and nothing is left but empty lines, where a head would begin
 abbrev pub EndedBeforeHead : {S : Type 0} → ℕ → Place S → Type 0
@@ -179,22 +183,29 @@ pub record FailsOnce {S : Type 0} (s : Unbuffered S) (e : Error) (b : InBody S) 
   pub none : (stream_in b).left ≡ []
   pub goes_on : ¬ (TookWholeBody (body_rules b.body.coding) b.body)
 
--- why a body isn't taken whole: a read failed, as this says; or it is wrong, or too large, or what is held wasn't sent
-abbrev pub WhyUntaken : {S : Type 0} → (Error → Type 0) → Unbuffered S → Untaken → InBody S → Type 0
-WhyUntaken Fails s (Body (Io e)) b = Fails e
-WhyUntaken Fails s (Body wrong) b =
-    OnlyInterrupts (faults_of s) (faults_of (stream_in b)) × IsToBeRefused (ends_of s) (Inside b) BadRequest
-WhyUntaken Fails s Large b = OnlyInterrupts (faults_of s) (faults_of (stream_in b)) × TurnsLarge b
-WhyUntaken Fails s (Unsent e) b = OnlyInterrupts (faults_of s) (faults_of (stream_in b))
+-- why a body isn't taken whole: a read failed, as this says; or it is torn, and this is so; or too large, or what is held wasn't
+-- sent
+abbrev pub WhyUntaken : {S : Type 0} → (Error → Type 0) → Type 0 → Unbuffered S → Untaken → InBody S → Type 0
+WhyUntaken Fails Torn s (Body (Io e)) b = Fails e
+WhyUntaken Fails Torn s (Body wrong) b =
+    OnlyInterrupts (faults_of s) (faults_of (stream_in b)) × IsTorn (ends_of s) b × Torn
+WhyUntaken Fails Torn s Large b = OnlyInterrupts (faults_of s) (faults_of (stream_in b)) × TurnsLarge b
+WhyUntaken Fails Torn s (Unsent e) b = OnlyInterrupts (faults_of s) (faults_of (stream_in b))
+
+-- what is too large is called that, and not torn
+abbrev pub unless_large : Untaken → Bool → Untaken
+unless_large (Body (Io e)) large = Body (Io e)
+unless_large (Body torn) true = Large
+unless_large why large = why
 
 -- so by one read
 abbrev pub OneReadFails : {S : Type 0} → Unbuffered S → Untaken → InBody S → Type 0
-OneReadFails s why b = AsksFew 1 s (stream_in b) × WhyUntaken (λ e. FailsOnce s e b) s why b
+OneReadFails s why b = AsksFew 1 s (stream_in b) × WhyUntaken (λ e. FailsOnce s e b) (Unit {0}) s why b
 
--- and by reads that are made again
+-- and by reads that are made again, where what is too large isn't called torn
 abbrev pub TakeFails : {S : Type 0} → (S → StreamLog) → Unbuffered S → Untaken → InBody S → Type 0
-TakeFails tells s why b =
-    AsksFew (interrupt_limit + 1) s (stream_in b) × WhyUntaken (λ e. FailsInRead tells s e (stream_in b)) s why b
+TakeFails tells s why b = AsksFew (interrupt_limit + 1) s (stream_in b)
+    × WhyUntaken (λ e. FailsInRead tells s e (stream_in b)) (too_large b ≡ false) s why b
 
 -- how sending went, where reading ended so
 abbrev pub sent_till : Untaken → Result (Unit {0}) Error

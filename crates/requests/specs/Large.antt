@@ -28,9 +28,13 @@ IsNewlyLarge {S} b = ((b.body.taken ≡ []) × (handed_of b.body ≡ []))
     × ((last ≡ []) ⊎ ((last ≡ b.body.calls.reads.latest) × (length last ≤ 4096)))
     × (is_large b.said.extent (length before.taken) (length (handed_of before)) ≡ false))
 
--- what was taken of a body is too large with the payload in it, as soon as that was read
+-- what was taken of a body is too large with the payload in it
+abbrev pub too_large : {S : Type 0} → InBody S → Bool
+too_large b = is_large b.said.extent (length b.body.taken) (length (handed_of b.body))
+
+-- and is so as soon as that was read
 pub record TurnsLarge {S : Type 0} (b : InBody S) : Type 0 where
-  pub large : IsTrue (is_large b.said.extent (length b.body.taken) (length (handed_of b.body)))
+  pub large : IsTrue (too_large b)
   pub fresh : IsNewlyLarge b
 
 -- the coding of a body under the usual limits

@@ -16,8 +16,9 @@ mod rows;
 mod taking;
 mod writing;
 
-ghost use Rattle.std.specs.Prelude.{◌≡◌, ◌≤◌, ℕ, true, IsTrue, IfOk, MatchResult, None, Ok, OnOk};
+ghost use Rattle.std.specs.Prelude.{◌≡◌, ◌+◌, ◌≤◌, ℕ, true, IsTrue, IfOk, MatchResult, None, Ok, OnOk};
 ghost use Rattle.buffer_redux.specs.Buffered.{Buffered};
+ghost use Rattle.buffer_redux.specs.Faults.{interrupt_limit};
 ghost use Rattle.buffer_redux.specs.Unbuffer.{Unbuffered};
 ghost use Rattle.buffer_redux.specs.declared.policy.StdPolicy.{StdPolicy};
 ghost use Rattle.codec.specs.PieceReader.{IsSettled, left_of};
@@ -73,7 +74,7 @@ fn serve<R: TellRead, W: TellWrite>(
     requires room { 65536 ≤ writer.old.block.capacity }
     requires limits { requests.decoder.0 ≡ usual }
     ensures room { room_at result.0 ≡ room_of requests.reader.block }
-    ensures few { FewFailed 65 (left_of requests) (stream_at result.0) }
+    ensures few { FewFailed (interrupt_limit + 1) (left_of requests) (stream_at result.0) }
     ensures serves { ServesRequests R.remaining W.log W.trace R.log (left_of requests) writer.old result.0 result.1 writer.new }
 {
     let mut next = requests;

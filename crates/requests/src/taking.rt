@@ -11,7 +11,7 @@ ghost use Rattle.messages.specs.declared.error.BodyError.TheVariants.{Io};
 ghost use Rattle.messages.specs.Limits.{usual};
 ghost use Rattle.messages.specs.Messages.{Enters, InsideGoes, body_rules, room_of};
 ghost use Rattle.redux_buffer.specs.Faults.{IsInterrupt, interrupt_limit};
-ghost use Rattle.requests.specs.Answers.{NoneLeft, OneReadFails, ReadsSome, ReadsSteadily, TakeFails, TakesWhole, sent_till, sent_with, stream_in};
+ghost use Rattle.requests.specs.Answers.{NoneLeft, OneReadFails, ReadsSome, ReadsSteadily, TakeFails, TakesWhole, sent_till, sent_with, stream_in, unless_large};
 ghost use Rattle.requests.specs.Large.{AwaitsMore, IsAwaited, is_large};
 ghost use Rattle.requests.specs.Sending.{IsHeld, Prompt, SendsUnless};
 
@@ -26,7 +26,7 @@ use std::io;
 // Why a body isn't taken whole.
 #[derive(Drop)]
 pub enum Untaken {
-    // It can't be read.
+    // It can't be read: a read failed, or it is torn.
     Body(BodyError),
     // It is too large.
     Large,
@@ -102,8 +102,25 @@ fn payload_len<R: TellRead, W: TellWrite>(
                 len += count as u64;
                 row = with;
             }
-            Err(e) => return Err(e),
+            Err(e) => return Err(unless_large(e, is_large(extent, body.taken(), len))),
         }
+    }
+}
+
+// What is too large is called that, and not torn.
+fn unless_large(e: Untaken, is_large: bool) -> Untaken
+    ensures { result ≡ unless_large e is_large }
+{
+    match e {
+        Untaken::Body(BodyError::Io(e)) => Untaken::Body(BodyError::Io(e)),
+        Untaken::Body(torn) => {
+            if is_large {
+                Untaken::Large
+            } else {
+                Untaken::Body(torn)
+            }
+        }
+        e => e,
     }
 }
 

@@ -91,4 +91,4 @@ returns-in-Some-clause-turns g c = λ s w come.
           c.refuse.ensures,
         ),
       ),
-    ) (inr (inr (is, ap (λ x. x.body.taken) c.requires.enters.is))) come.reads.faults)
+    ) (inl (is, ap (λ x. x.body.taken) c.requires.enters.is)) come.reads.faults)

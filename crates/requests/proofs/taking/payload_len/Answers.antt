@@ -1,14 +1,16 @@
 -- The payload of each read joins what came before, which wasn't too large before the last read; one that was interrupted is made
 -- again, unless as many were in a row as the limit.
-use Rattle.std.proofs.Common.{◌≡◌, ◌∙◌, false, ℕ, zero, suc, ◌+◌, ◌-◌, ◌*◌, ◌<◌, ◌≤◌, ◌⊎◌, List, [], ◌∷◌, ◌++◌, length, take, Option, ap, append-nil, arith, inl, inr, length-append, refl, subst, sym, Err, IfOk, Ok, Result}
+use Rattle.std.proofs.Common.{◌≡◌, ◌∙◌, Bool, false, true, ℕ, zero, suc, ◌+◌, ◌-◌, ◌*◌, ◌<◌, ◌≤◌, ◌⊎◌, List, [], ◌∷◌, ◌++◌, length, take, Option, ap, append-nil, arith, inl, inr, length-append, refl, subst, sym, Err, IfOk, Ok, Result}
 use Rattle.messages.specs.declared.head.ParsedHead.{ParsedHead}
 use Rattle.redux_buffer.specs.Faults.{IsInterrupt}
-use Rattle.requests.proofs.Names.{AwaitsMore, body_rules, Buffered, cases_lt, Enters, Error, FailsInRow, FailsOnce, faults_of, handed_of, InBody, InsideGoes, InsideGoes-joins, InsideGoes-none, Io, is_large, IsAwaited, length-take-le, max_payload, nil_from_length, OnlyInterrupts-one, Prompt, ReadsSteadily, sent_till, StdPolicy, stream_in, StreamLog, TookWholeBody, Unbuffered, Untaken, usual}
+use Rattle.requests.proofs.Names.{AwaitsMore, body_rules, Buffered, cases_lt, Enters, Error, FailsInRead, FailsInRow, FailsOnce, faults_of, handed_of, InBody, InsideGoes, InsideGoes-joins, InsideGoes-none, Io, is_large, IsAwaited, length-take-le, max_payload, nil_from_length, OnlyInterrupts-one, Prompt, ReadsSteadily, sent_till, StdPolicy, stream_in, StreamLog, TookWholeBody, Unbuffered, Untaken, usual}
 use Rattle.codec.specs.AskedAgain.{InARow}
-use Rattle.requests.specs.declared.taking.Untaken.TheVariants.{Body}
+use Rattle.requests.specs.Answers.{unless_large}
+use Rattle.requests.specs.declared.taking.Untaken.TheVariants.{Body, Large, Unsent}
+use Rattle.messages.specs.declared.error.BodyError.TheVariants.{Truncated, Wrong}
 use Rattle.requests.proofs.Interrupted.{again, body_came, body_none, calm, row_on}
 use Rattle.requests.proofs.Large.{awaited, few_counted, few_taken, newly_large, tested}
-use Rattle.requests.proofs.Reading.{AsksFew-after, AsksFew-upto, failed_behind, inside_went, steady_same, WhyUntaken-after}
+use Rattle.requests.proofs.Reading.{AsksFew-after, AsksFew-upto, failed_behind, inside_went, steady_same, unless_too_large, WhyUntaken-after}
 use Rattle.requests.proofs.Sending.{Prompt-held, Prompt-none, Prompt-on}
 use Rattle.requests.proofs.taking.payload_len.Goals as goal
 use Rattle.requests.proofs.taking.payload_len.Goals.{After-taken-in-reads}
@@ -52,6 +54,16 @@ shrinks : (x y row more : ℕ) → (y < x) ⊎ ((y ≤ x) × (row < more)) → r
     → y * 65 + (64 - more) < x * 65 + (64 - row)
 shrinks x y row more (inl less) few most = omega (arith, less, few, most)
 shrinks x y row more (inr (still, up)) few most = omega (arith, still, up, few, most)
+
+-- what is too large was sent for as what is torn
+sent_alike : (large : Bool) (e : Untaken) → sent_till (unless_large e large) ≡ sent_till e
+sent_alike large (Body (Io e)) = refl
+sent_alike true (Body (Wrong why)) = refl
+sent_alike true (Body (Truncated due)) = refl
+sent_alike false (Body (Wrong why)) = refl
+sent_alike false (Body (Truncated due)) = refl
+sent_alike large Large = refl
+sent_alike large (Unsent e) = refl
 
 -- what was taken so far isn't too large
 small : (g : _) (c : After-taken-in-reads g)
@@ -258,21 +270,32 @@ returns-in-Err-clause-goes g c =
 
 pub returns-in-Err-clause-fails : goal.returns-in-Err-clause-fails
 returns-in-Err-clause-fails g c =
+    let at = (goal.at.returns-in-Err-clause-fails g c).After-taken-in-reads in
     let before = c.reads.invariant in
     let ends = c.in-Err.ensures.ends in
-    let read = rw ends.0 at c.read_on-answer.ensures in (
+    let t = c.read_on-answer.new.body in
+    let read = rw ends.0 at c.read_on-answer.ensures in
+    rw c.unless_large.ensures (
       AsksFew-after before.reads read.fails.0 (omega (arith, before.most)),
-      WhyUntaken-after before.reads c.in-Err.e c.read_on-answer.new.body (λ e same once. (
-        failed_behind (faults_of (stream_in c.args.body.now)) (faults_of (stream_in c.reads.body)) _ e before.reads.faults
-            once.fault,
-        λ interrupted. one_more g (goal.at.returns-in-Err-clause-fails g c).After-taken-in-reads e once read.goes
-            (ends.1 e same interrupted),
-      )) read.fails.1,
+      unless_too_large (λ e. FailsInRead g.R.Tell.log (stream_in c.args.body.now) e (stream_in t)) (stream_in c.args.body.now) t
+          c.is_large-in-Err.result
+          (ap (is_large t.said.extent (length t.body.taken)) (ap length read.goes.went.handed
+          ∙ ap length (append-nil (handed_of c.reads.body.body)) ∙ sym before.many)
+          ∙ tested _ _ _ _ t.body.taken _ c.is_large-in-Err.ensures
+          (same_extent c.said-extent.ensures.value before.goes ∙ ap (λ s. s.extent) (sym read.goes.said)) c.taken-in-Err.ensures)
+          (newly_large before.goes.whole read.goes (inl refl) (subst (λ n. is_large c.reads.body.said.extent
+          (length c.reads.body.body.taken) n ≡ false) before.many (small g at)))
+          c.in-Err.e (WhyUntaken-after (Unit {0}) before.reads c.in-Err.e t (λ e same once. (
+            failed_behind (faults_of (stream_in c.args.body.now)) (faults_of (stream_in c.reads.body)) _ e before.reads.faults
+                once.fault,
+            λ interrupted. one_more g at e once read.goes (ends.1 e same interrupted),
+          )) read.fails.1),
     )
 
 pub returns-in-Err-clause-writes : goal.returns-in-Err-clause-writes
 returns-in-Err-clause-writes g c =
     let before = c.reads.invariant in
     let read = rw c.in-Err.ensures.ends.0 at c.read_on-answer.ensures in
-    asks_on (sent_till c.in-Err.e) c.requires.enters before.goes before.many
-    (small g (goal.at.returns-in-Err-clause-writes g c).After-taken-in-reads) before.writes read.writes
+    rw (c.unless_large.ensures, sent_alike c.is_large-in-Err.result c.in-Err.e)
+    (asks_on (sent_till c.in-Err.e) c.requires.enters before.goes before.many
+    (small g (goal.at.returns-in-Err-clause-writes g c).After-taken-in-reads) before.writes read.writes)

@@ -18,7 +18,7 @@ why_from : {S : Type 0} (s m : Unbuffered S) → m.log ≡ s.log → (e : Untake
     → OneReadFails s e b
 why_from s m same e b (few, why) = (
   AsksFew-after (steady_same s m same) few (omega arith),
-  WhyUntaken-after (steady_same s m same) e b (λ fault is once. record {
+  WhyUntaken-after (Unit {0}) (steady_same s m same) e b (λ fault is once. record {
     fault = once.fault ∙ ap (λ l. l.reads.faults ++ fault ∷ []) same;
     ends = once.ends ∙ ap (λ l. l.reads.zero_reads) same;
     none = once.none;
