@@ -4,21 +4,23 @@ use Rattle.std.specs.Global.{Global}
 use Rattle.std.specs.Io.BufRead.{ends_with_byte, strip_last}
 use Rattle.std.specs.IoError.{error_kind}
 use Rattle.std.specs.declared.io.Error.{Error}
-use Rattle.std.specs.declared.io.ErrorKind.TheVariants.{InvalidData, TimedOut}
+use Rattle.std.specs.declared.io.ErrorKind.TheVariants.{InvalidData, OutOfMemory, TimedOut}
 use Rattle.buffer_redux.specs.Policy.{ReadRules}
 use Rattle.buffer_redux.specs.Buffered.{Buffered}
-use Rattle.buffer_redux.specs.ReadUntil.{ReadsUntil}
+use Rattle.buffer_redux.specs.ReadUntil.{FilledOrFull, ReadsUntil}
 
--- a reader that is cut at each such byte, what came of the next piece before a fault, and how often it may be called
+-- a reader that is cut at each such byte, what came of the next piece before a fault, how many bytes of that fit without a
+-- growth, and how often it may be called
 pub record Splitting (S P : Type 0) : Type 0 where
   pub reader : Buffered S P
   pub byte : ℕ
   pub begun : List ℕ
+  pub room : ℕ
   pub left : ℕ
 
--- a reader of which nothing was asked yet, and of whose next piece these bytes came before
-abbrev pub goes_on : {S P : Type 0} → ℕ → Buffered S P → List ℕ → Splitting S P
-goes_on byte reader begun = record { reader = reader; byte = byte; begun = begun; left = 2 ^ 64 - 1 }
+-- a reader of which nothing was asked yet, and of whose next piece these bytes came before, where so many fit
+abbrev pub goes_on : {S P : Type 0} → ℕ → Buffered S P → List ℕ → ℕ → Splitting S P
+goes_on byte reader begun room = record { reader = reader; byte = byte; begun = begun; room = room; left = 2 ^ 64 - 1 }
 
 -- the next piece was gone on with up to its byte or the end of all, or to this error, and this was not the last call
 pub record GoesOnWith {S P : Type 0} (remaining : S → Option (List ℕ)) (rules : ReadRules P) (s : Splitting S P)
@@ -35,16 +37,18 @@ pub record GivesWhole {S P : Type 0} (remaining : S → Option (List ℕ)) (rule
   pub went : GoesOnWith remaining rules s (Ok count) piece t
   pub some : 0 < length piece
   pub begun : t.begun ≡ []
+  pub room : t.room ≡ 0
 
 -- there is no further call, or no further piece
 abbrev pub Ended : {S P : Type 0} → (S → Option (List ℕ)) → ReadRules P → Splitting S P → Splitting S P → Type 0
 Ended remaining rules s t = (s.left ≡ 0) × (t ≡ s)
     ⊎ ((count : ℕ) × GoesOnWith remaining rules s (Ok count) [] t × (t.begun ≡ []))
 
--- what came stays, and is gone on with; or it was the last call, which does nothing
+-- what came stays, and is gone on with, and memory was wanted only without room; or it was the last call, which does nothing
 abbrev pub Stopped : {S P : Type 0} → (S → Option (List ℕ)) → ReadRules P → Splitting S P → Error → Splitting S P
     → Type 0
-Stopped remaining rules s e t = GoesOnWith remaining rules s (Err e) t.begun t
+Stopped remaining rules s e t = (GoesOnWith remaining rules s (Err e) t.begun t × (error_kind e ≡ OutOfMemory
+    → FilledOrFull (λ left. left ≡ []) remaining rules s.byte s.reader s.room e t.begun t.reader))
     ⊎ ((s.left ≡ 1) × (error_kind e ≡ TimedOut) × (t ≡ record s { left = 0 }))
 
 -- a call gave this of the next piece, made of all its bytes, or stopped

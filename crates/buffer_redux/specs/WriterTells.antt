@@ -9,7 +9,7 @@ use Rattle.redux_buffer.specs.StreamLog.{StreamLog, WriteLog, Readies, after_wri
 use Rattle.redux_buffer.specs.LogGrows.{WriteLogGrows, WriteLogGrows-none, WriteLogGrows-joins, WritesGoOn, WritesGoOn-of}
 use Rattle.buffer_redux.specs.Policy.{WriteRules, std_write_rules}
 use Rattle.buffer_redux.specs.Buffered.{Buffered, with_calls}
-use Rattle.buffer_redux.specs.BufWriter.{LeavesCapacity, WasFlushed, Writes}
+use Rattle.buffer_redux.specs.BufWriter.{LeavesCapacity, WasFlushed, WriteRows, Writes}
 use Rattle.buffer_redux.specs.WriterLaws.{FlushesNothingAfter}
 
 -- a buffered writer tells that it received what the inner writer did, and then what is buffered, and flushed what the inner
@@ -57,13 +57,14 @@ pub record WriterWent {S P : Type 0} (trace : S → S → Type 0) (rules : Write
   pub met : TellsFailures rules s.policy → MetInterrupts s.own_calls.writes t.own_calls.writes
       → MetInterrupts s.log.writes t.log.writes
 
--- one call, a write or a flush, step after step. Under a steady policy an error that it returned is the one that the inner
+-- one call, a write or a flush, step after step, with the rows in which sends of it failed. Under a steady policy an error that it returned is the one that the inner
 -- writer returned last, or came of a write that took nothing of something; and so did an answer that took nothing of
 -- something. Before that came interrupted writes alone
 pub record WriterCalled {S P : Type 0} (tells : S → StreamLog) (trace : S → S → Type 0) (rules : WriteRules P)
     (s t : Buffered S P) : Type 0 where
   pub steps : ((bytes : List ℕ) × (answer : Result ℕ Error)
-      × Writes rules s bytes answer t × (t.own_calls ≡ after_write s.own_calls bytes answer))
+      × Writes rules s bytes answer t × (t.own_calls ≡ after_write s.own_calls bytes answer)
+      × WriteRows tells trace rules s bytes answer (with_calls t s.own_calls))
       ⊎ ((answer : Result (Unit {0}) Error) × WasFlushed tells trace s answer (with_calls t s.own_calls)
       × (t.own_calls ≡ after_flush s.own_calls answer))
   pub fault : (rules.claims s.policy).steady ≡ true → (e : Error)

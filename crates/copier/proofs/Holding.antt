@@ -97,7 +97,7 @@ module _ {W : Type 0} (tells : W → StreamLog) (trace : W → W → Type 0) whe
         let small : s.block.capacity ≤ 1 = omega (arith, few, kept) in
         let none = held_small (length s.block.bytes) s.block.capacity small held in
         held_none (length t.block.bytes) t.block.capacity (elim called.steps [
-          | inl (bytes, answer, steps, noted) ↦ stays_empty s t bytes small none answer steps
+          | inl (bytes, answer, steps, noted, rows) ↦ stays_empty s t bytes small none answer steps
           | inr (answer, flushed, noted) ↦ omega (
             arith,
             none,

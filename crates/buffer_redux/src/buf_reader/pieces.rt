@@ -1,5 +1,5 @@
 //! Iterators over the pieces of a stream that end in a byte, and over its lines.
-ghost use Rattle.std.specs.Prelude.{◌≡◌, ◌<◌, [], string_bytes, vec_items, IsUtf8, MatchResult, OnSome};
+ghost use Rattle.std.specs.Prelude.{◌≡◌, ◌<◌, [], string_bytes, vec_capacity, vec_items, IsUtf8, MatchResult, OnSome};
 ghost use Rattle.std.specs.Iterator.{at_most};
 ghost use Rattle.std.specs.Io.BufRead.{ends_with_byte, strip_last};
 ghost use Rattle.std.specs.IoError.{error_kind};
@@ -28,11 +28,18 @@ pub struct Split<R: TellRead, P = StdPolicy> {
 }
 
 impl<R: TellRead, P> Model for Split<R, P> {
+    ghost use Rattle.std.specs.Prelude.{vec_capacity};
     ghost use Rattle.buffer_redux.specs.Pieces.{Splitting};
 
     ghost Value = { Splitting R P };
 
-    ghost view = { λ s. record { reader = s.reader; byte = s.byte; begun = s.begun.items; left = s.left } };
+    ghost view = { λ s. record {
+      reader = s.reader;
+      byte = s.byte;
+      begun = s.begun.items;
+      room = vec_capacity s.begun;
+      left = s.left;
+    } };
 }
 
 /// The lines of a reader as text, without the line feed at their ends, nor a carriage return before it;
@@ -55,14 +62,14 @@ impl<R: TellRead, P> Model for Lines<R, P> {
 impl<R: TellRead, P: ReaderPolicy> BufReader<R, P> {
     /// The pieces of what is left that end in `byte`, each in a vector without it, by [`read_until`](BufReader::read_until).
     pub fn split(self, alloc: Global, byte: u8) -> Split<R, P>
-        ensures { result ≡ goes_on byte self [] }
+        ensures { result ≡ goes_on byte self [] 0 }
     {
         Split::from_parts(alloc, self, byte, Vec::new(alloc))
     }
 
     /// The lines of what is left, each in a string without its end.
     pub fn lines(self, alloc: Global) -> Lines<R, P>
-        ensures { result ≡ goes_on 10 self [] }
+        ensures { result ≡ goes_on 10 self [] 0 }
     {
         Lines {
             lines: self.split(alloc, b'\n'),
@@ -73,7 +80,7 @@ impl<R: TellRead, P: ReaderPolicy> BufReader<R, P> {
 impl<R: TellRead, P> Split<R, P> {
     /// The pieces of what is left, of which the first begins with `begun`: the inverse of [`into_parts`](Split::into_parts).
     pub fn from_parts(alloc: Global, reader: BufReader<R, P>, byte: u8, begun: Vec<u8>) -> Self
-        ensures { result ≡ goes_on byte reader (vec_items begun) }
+        ensures { result ≡ goes_on byte reader (vec_items begun) (vec_capacity begun) }
     {
         Split {
             reader,
@@ -91,7 +98,7 @@ impl<R: TellRead, P: ReaderPolicy> Split<R, P> {
     /// [`read_until`](BufReader::read_until), which appends the rest to them.
     pub fn into_parts(self) -> (BufReader<R, P>, Vec<u8>)
         ensures reader { result.0 ≡ self.reader }
-        ensures begun { vec_items result.1 ≡ self.begun }
+        ensures begun { (vec_items result.1 ≡ self.begun) × (vec_capacity result.1 ≡ self.room) }
     {
         let Split {
             reader,
@@ -149,7 +156,7 @@ impl<R: TellRead + Drop, P: ReaderPolicy + Drop> Iterator for Split<R, P> {
 impl<R: TellRead, P> Lines<R, P> {
     /// The lines of what is left, of which the first begins with `begun`: the inverse of [`into_parts`](Lines::into_parts).
     pub fn from_parts(alloc: Global, reader: BufReader<R, P>, begun: Vec<u8>) -> Self
-        ensures { result ≡ goes_on 10 reader (vec_items begun) }
+        ensures { result ≡ goes_on 10 reader (vec_items begun) (vec_capacity begun) }
     {
         Lines {
             lines: Split::from_parts(alloc, reader, b'\n', begun),
@@ -163,7 +170,7 @@ impl<R: TellRead, P: ReaderPolicy> Lines<R, P> {
     /// next may be no text of its own, and [`read_line`](BufReader::read_line) would answer `InvalidData` each time.
     pub fn into_parts(self) -> (BufReader<R, P>, Vec<u8>)
         ensures reader { result.0 ≡ self.reader }
-        ensures begun { vec_items result.1 ≡ self.begun }
+        ensures begun { (vec_items result.1 ≡ self.begun) × (vec_capacity result.1 ≡ self.room) }
     {
         self.lines.into_parts()
     }

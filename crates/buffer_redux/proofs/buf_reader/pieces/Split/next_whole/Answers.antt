@@ -1,8 +1,10 @@
 -- A piece is what had begun and what `read_until` appended; where that is no bytes, the stream has ended.
-use Rattle.std.proofs.Common.{◌≡◌, ℕ, ◌-◌, ◌==◌, ◌∙◌, List, Ok, inr, length, refl, sym, subst, ap, arith}
+use Rattle.std.proofs.Common.{◌≡◌, ℕ, ◌-◌, ◌==◌, ◌∙◌, List, Ok, inl, inr, length, refl, sym, subst, ap, arith}
+use Rattle.std.specs.Global.{Vec}
+use Rattle.std.specs.Prelude.{vec_capacity}
 use Rattle.std.proofs.lemmas.Bool.{eqb-true}
 use Rattle.std.proofs.lemmas.List.{nil_from_length}
-use Rattle.buffer_redux.specs.Pieces.{Ended, GivesWhole, GoesOnWith, Splitting}
+use Rattle.buffer_redux.specs.Pieces.{Ended, GivesWhole, GoesOnWith, Splitting, Stopped}
 use Rattle.buffer_redux.specs.ReadUntil.{ReadsUntil}
 use Rattle.buffer_redux.proofs.Testing.{some_of}
 use Rattle.buffer_redux.proofs.buf_reader.pieces.Split.next_whole.Goals as goal
@@ -11,14 +13,19 @@ use Rattle.buffer_redux.proofs.buf_reader.pieces.Split.next_whole.Goals.{After-i
 abbrev before : (g : _) → goal.After-is_empty g → Splitting g.row.R.Denot g.row.P.Denot
 before g c =
     let own = c.self.inside in
-    record { reader = own.reader; byte = own.byte; begun = own.begun.items; left = own.left }
+    record { reader = own.reader; byte = own.byte; begun = own.begun.items; room = vec_capacity own.begun; left = own.left }
 
-abbrev after : (g : _) → goal.After-is_empty g → List ℕ → Splitting g.row.R.Denot g.row.P.Denot
+abbrev after : (g : _) → goal.After-is_empty g → Vec ℕ → Splitting g.row.R.Denot g.row.P.Denot
 after g c begun =
-    let own = c.self.inside in
-    record { reader = c.read_until.new.self; byte = own.byte; begun = begun; left = own.left - 1 }
+    let own = c.self.inside in record {
+      reader = c.read_until.new.self;
+      byte = own.byte;
+      begun = begun.items;
+      room = vec_capacity begun;
+      left = own.left - 1;
+    }
 
-went : (g : _) (c : goal.After-is_empty g) (begun : List ℕ)
+went : (g : _) (c : goal.After-is_empty g) (begun : Vec ℕ)
     → GoesOnWith g.R.TellRead.remaining g.P.ReaderPolicy.rules (before g c) (Ok c.in_default.field-0)
     c.read_until.new.out.items (after g c begun)
 went g c begun =
@@ -37,12 +44,13 @@ pub returns-clause-gives : goal.returns-clause-gives
 returns-clause-gives g c =
     let at = (goal.at.returns-clause-gives g c).After-is_empty in
     let piece = c.read_until.new.out.items in
-    let t = after g at c.replace.new.dest.items in
+    let t = after g at c.replace.new.dest in
     let whole : GivesWhole g.R.TellRead.remaining g.P.ReaderPolicy.rules (before g at) piece t = record {
       count = c.in_default.field-0;
-      went = went g at c.replace.new.dest.items;
+      went = went g at c.replace.new.dest;
       some = some_of (length piece) (counted g at ∙ c.if-is_empty.false);
       begun = ap (λ v. v.items) c.replace.ensures.after ∙ c.new-next.ensures.items;
+      room = ap vec_capacity c.replace.ensures.after ∙ c.new-next.ensures.capacity;
     } in (
       piece,
       subst (λ s. GivesWhole g.R.TellRead.remaining g.P.ReaderPolicy.rules s piece t) c.self.view_is whole,
@@ -53,11 +61,30 @@ pub returns-then-is_empty-clause-gives : goal.returns-then-is_empty-clause-gives
 returns-then-is_empty-clause-gives g c =
     let at = (goal.at.returns-then-is_empty-clause-gives g c).After-is_empty in
     let piece = c.read_until.new.out.items in
-    let t = after g at piece in
+    let t = after g at c.read_until.new.out in
     let none = nil_from_length piece (eqb-true (length piece) 0 (counted g at ∙ c.if-is_empty.true)) in
     subst (λ s. Ended g.R.TellRead.remaining g.P.ReaderPolicy.rules s t) c.self.view_is (inr (
       c.in_default.field-0,
       subst (λ l. GoesOnWith g.R.TellRead.remaining g.P.ReaderPolicy.rules (before g at) (Ok c.in_default.field-0) l t)
-          none (went g at piece),
+          none (went g at c.read_until.new.out),
       none,
+    ))
+
+pub returns-in-Err-clause-gives : goal.returns-in-Err-clause-gives
+returns-in-Err-clause-gives g c =
+    let own = c.self.inside in
+    subst (λ s. Stopped g.R.TellRead.remaining g.P.ReaderPolicy.rules s c.in-Err.e (record {
+      reader = c.read_until.new.self;
+      byte = own.byte;
+      begun = c.read_until.new.out.items;
+      room = vec_capacity c.read_until.new.out;
+      left = own.left - 1;
+    })) c.self.view_is (inl (
+      record {
+        reads = c.in-Err.ensures.until;
+        byte = refl;
+        called = omega (arith, c.if-self-eq0.false);
+        more = omega (arith, c.if-self-eq0.false, c.if-self-eq0-2.false);
+      },
+      c.in-Err.ensures.full,
     ))

@@ -7,7 +7,8 @@ use Rattle.redux_buffer.specs.Faults.{TookNothing, SendErrorCaused}
 use Rattle.redux_buffer.specs.StreamLog.{after_write}
 use Rattle.redux_buffer.specs.LogGrows.{WriteLogGrows, WriteLogGrows-write}
 use Rattle.buffer_redux.specs.WriterTells.{writer_log}
-use Rattle.buffer_redux.specs.BufWriter.{Writes}
+use Rattle.buffer_redux.specs.Buffered.{with_calls}
+use Rattle.buffer_redux.specs.BufWriter.{WriteRows, Writes}
 use Rattle.buffer_redux.proofs.WriteTelling.{call_went, write_fails, write_met, write_fault, write_nothing, writes_noted}
 use Rattle.buffer_redux.proofs.buf_writer.tells.BufWriterTellWrite.write_told.Goals as goal
 
@@ -51,7 +52,15 @@ returns-clause-call g c =
     let noted : c.note.new.self.log ≡ after_write s.own_calls bs answer = search rules in
     let same = ap (λ x. x.log.writes) c.self.view_is in
     record {
-      steps = inl (bs, answer, returns-clause-steps g c, noted);
+      steps = inl (
+        bs,
+        answer,
+        returns-clause-steps g c,
+        noted,
+        subst (λ x. WriteRows g.W.Tell.log g.W.TellWrite.trace table s bs answer (with_calls x s.own_calls))
+            (sym c.self.view_is) (subst (λ calls. WriteRows g.W.Tell.log g.W.TellWrite.trace table s bs answer
+            (with_calls m calls)) wrote.keeps.went.noted wrote.rows),
+      );
       fault = λ steady e is.
           subst (λ l. SendErrorCaused s.log.writes l e) (sym same)
           (write_fault table s m bs steady answer e wrote.caused
