@@ -57,9 +57,9 @@ pub record WriterWent {S P : Type 0} (trace : S → S → Type 0) (rules : Write
   pub met : TellsFailures rules s.policy → MetInterrupts s.own_calls.writes t.own_calls.writes
       → MetInterrupts s.log.writes t.log.writes
 
--- one call, a write or a flush, step after step, with the rows in which sends of it failed. Under a steady policy an error that it returned is the one that the inner
--- writer returned last, or came of a write that took nothing of something; and so did an answer that took nothing of
--- something. Before that came interrupted writes alone
+-- one call, a write or a flush, step after step, and the row in which a send of it failed. Under a steady policy an error that
+-- it returned is the one that the inner writer returned last, or came of a write that took nothing of something; and so did an
+-- answer that took nothing of something. Before that came interrupted writes alone
 pub record WriterCalled {S P : Type 0} (tells : S → StreamLog) (trace : S → S → Type 0) (rules : WriteRules P)
     (s t : Buffered S P) : Type 0 where
   pub steps : ((bytes : List ℕ) × (answer : Result ℕ Error)
