@@ -74,7 +74,7 @@ impl<S: Scan> LengthPrefixed for ByScan<S> {
 
     #[inline(always)]
     fn no_note(&self) -> ScanNote<S::State> {
-        no_scan(&self.0)
+        ScanNote::Within(self.0.start())
     }
 
     #[inline(always)]
@@ -99,16 +99,8 @@ impl<S: Scan> LengthPrefixed for ByScan<S> {
     ghost headers = { λ s. scanned_headers (S.scanning s.0) (S.small s.0) };
 }
 
-// The note before the first byte.
-#[inline(always)]
-pub(crate) fn no_scan<S: Scan>(protocol: &S) -> ScanNote<S::State>
-    ensures { scan_notes (S.scanning protocol.now) [] result }
-{
-    ScanNote::Within(protocol.start())
-}
-
 // What the header says at the front of these bytes, of which the first `seen` were read before, and led to this note.
-pub(crate) fn scan_header<S: Scan>(
+fn scan_header<S: Scan>(
     protocol: &S,
     bytes: &[u8],
     seen: usize,

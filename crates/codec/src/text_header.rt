@@ -4,11 +4,10 @@ ghost use Rattle.codec.specs.Number.{with_byte};
 ghost use Rattle.codec.specs.TextHeaders.{Words, IsSound, counts, ends, enters, stands};
 
 use crate::number::Number;
-use crate::scan::{Scan, ScanNote, ScanStep, no_scan, scan_header};
-use piece_reader::{Header, LengthPrefixed};
+use crate::scan::{Scan, ScanStep};
 
 /// A protocol whose pieces are some bytes, the payload's length in decimal, some bytes, the payload, and some bytes. Its
-/// decoder is [`ByHeader`](crate::ByHeader) over [`ByTextHeader`].
+/// decoder is [`ByHeader`](crate::ByHeader) over [`ByScan`](crate::ByScan) over [`ByTextHeader`].
 ///
 /// A length has a digit, none behind a zero in front, and at most 18.
 pub trait TextHeader: Drop {
@@ -46,7 +45,7 @@ pub enum TextHeaderState {
     After(usize, usize),
 }
 
-/// The header that is text.
+/// The header that is text, read byte by byte.
 #[derive(Clone, Copy, Debug, Drop)]
 pub struct ByTextHeader<T: TextHeader>(pub T);
 
@@ -145,45 +144,6 @@ impl<T: TextHeader> Scan for ByTextHeader<T> {
     }
 
     ghost small = { λ t. text_small (T.words t.0) (T.sound t.0) };
-}
-
-impl<T: TextHeader> LengthPrefixed for ByTextHeader<T> {
-    ghost use Rattle.codec.specs.Scanning.{scan_notes, scanned};
-    ghost use Rattle.codec.specs.ScanningLaws.{scanned_headers};
-    ghost use Rattle.codec.specs.TextHeaders.{text_scanning};
-    ghost use Rattle.codec.specs.TextHeadersLaws.{text_small};
-
-    type Note = ScanNote<TextHeaderState>;
-
-    ghost header_format = { λ t. scanned (text_scanning (T.words t.0)) };
-
-    ghost notes = { λ t. scan_notes (text_scanning (T.words t.0)) };
-
-    #[inline(always)]
-    fn no_note(&self) -> ScanNote<TextHeaderState> {
-        no_scan(self)
-    }
-
-    #[inline(always)]
-    fn header(&self, bytes: &[u8], seen: usize, note: &mut ScanNote<TextHeaderState>) -> Header {
-        scan_header(self, bytes, seen, note)
-    }
-
-    fn most_header(&self) -> usize {
-        Scan::most_header(self)
-    }
-
-    #[inline(always)]
-    fn max(&self) -> usize {
-        self.0.max()
-    }
-
-    #[inline(always)]
-    fn tail(&self) -> &[u8] {
-        self.0.tail()
-    }
-
-    ghost headers = { λ t. scanned_headers (text_scanning (T.words t.0)) (text_small (T.words t.0) (T.sound t.0)) };
 }
 
 // Whether this byte stands at this place.

@@ -4,7 +4,7 @@ ghost use Rattle.std.specs.Fmt.{decimal};
 ghost use Rattle.codec.specs.TextHeadersOut.{IsWritten};
 
 use crate::header_bytes::HeaderBytes;
-use crate::length_prefixed_writer::LengthPrefixedOut;
+use crate::scan_writer::ScanOut;
 use crate::text_header::{ByTextHeader, TextHeader};
 
 // The greatest number of 18 digits.
@@ -16,7 +16,7 @@ pub trait TextHeaderOut: TextHeader {
     ghost written: { (t : Self) → IsWritten (Self.words t) };
 }
 
-impl<T: TextHeaderOut> LengthPrefixedOut for ByTextHeader<T> {
+impl<T: TextHeaderOut> ScanOut for ByTextHeader<T> {
     ghost use Rattle.codec.specs.TextHeadersOutLaws.{text_read_back};
 
     // The length in decimal, which has at most 18 digits.

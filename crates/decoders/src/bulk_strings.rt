@@ -7,7 +7,7 @@ use codec::{TextHeader, TextHeaderOut};
 /// null string of RESP 2, whose length is -1, is none.
 ///
 /// ```
-/// let strings = ByHeader(ByTextHeader(BulkStrings { max: 100 }));
+/// let strings = ByHeader(ByScan(ByTextHeader(BulkStrings { max: 100 })));
 /// let stream = Told::new(b"$2\r\nhi\r\n".as_slice());
 /// let mut reader = PieceReader::new(alloc, stream, strings)?;
 /// assert!(rt; matches!(reader.next(), Ok(Some(b"hi"))));

@@ -6,7 +6,7 @@ use codec::{TextHeader, TextHeaderOut};
 /// Netstrings of at most `max` bytes: a length in decimal, a colon, so many bytes, and a comma.
 ///
 /// ```
-/// let netstrings = ByHeader(ByTextHeader(Netstrings { max: 100 }));
+/// let netstrings = ByHeader(ByScan(ByTextHeader(Netstrings { max: 100 })));
 /// let stream = Told::new(b"2:hi,0:,".as_slice());
 /// let mut reader = PieceReader::new(alloc, stream, netstrings)?;
 /// assert!(rt; matches!(reader.next(), Ok(Some(b"hi"))));

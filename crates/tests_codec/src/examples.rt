@@ -94,7 +94,7 @@ fn piece_writer(rt: HostRuntime) -> Result<(), Fail> {
 #[test]
 fn netstrings(rt: HostRuntime) -> Result<(), Fail> {
     let alloc = rt.alloc();
-    let netstrings = ByHeader(ByTextHeader(Netstrings { max: 100 }));
+    let netstrings = ByHeader(ByScan(ByTextHeader(Netstrings { max: 100 })));
     let stream = Told::new(b"2:hi,0:,".as_slice());
     let mut reader = PieceReader::new(alloc, stream, netstrings)?;
     assert!(rt; matches!(reader.next(), Ok(Some(b"hi"))));
@@ -106,7 +106,7 @@ fn netstrings(rt: HostRuntime) -> Result<(), Fail> {
 #[test]
 fn bulk_strings(rt: HostRuntime) -> Result<(), Fail> {
     let alloc = rt.alloc();
-    let strings = ByHeader(ByTextHeader(BulkStrings { max: 100 }));
+    let strings = ByHeader(ByScan(ByTextHeader(BulkStrings { max: 100 })));
     let stream = Told::new(b"$2\r\nhi\r\n".as_slice());
     let mut reader = PieceReader::new(alloc, stream, strings)?;
     assert!(rt; matches!(reader.next(), Ok(Some(b"hi"))));

@@ -167,12 +167,12 @@ fn walks(alloc: Global, played: Played<'_>) -> io::Result<Option<Came>> {
         Aba => abas(alloc, played),
         Net => either(
             alloc,
-            ByHeader(ByTextHeader(Netstrings { max: 12 })),
+            ByHeader(ByScan(ByTextHeader(Netstrings { max: 12 }))),
             played,
         ),
         Bulk => either(
             alloc,
-            ByHeader(ByTextHeader(BulkStrings { max: 5 })),
+            ByHeader(ByScan(ByTextHeader(BulkStrings { max: 5 }))),
             played,
         ),
         LengthsOf(width, order) => {

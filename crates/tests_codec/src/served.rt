@@ -30,7 +30,7 @@ fn by_first(rt: HostRuntime) -> Result<(), Fail> {
     let alloc = rt.alloc();
     let mixed = ByFirst {
         byte: b'$',
-        one: ByHeader(ByTextHeader(BulkStrings { max: 9 })),
+        one: ByHeader(ByScan(ByTextHeader(BulkStrings { max: 9 }))),
         other: Delimited { end: b'\n', max: 9 },
     };
     let stream = Told::new(b"one\n$2\r\nhi\r\n".as_slice());

@@ -2,7 +2,7 @@
 use Rattle.std.proofs.Common.{◌≤◌, length, ap, arith}
 use Rattle.std.specs.Fmt.{decimal}
 use Rattle.std.proofs.lemmas.Fmt.{length-decimal-le}
-use Rattle.codec.proofs.text_header_writer.ByTextHeaderLengthPrefixedOut.header_of.Goals as goal
+use Rattle.codec.proofs.text_header_writer.ByTextHeaderScanOut.header_of.Goals as goal
 
 pub push_number-requires : goal.push_number-requires
 push_number-requires g c =
