@@ -3,7 +3,7 @@ ghost use Rattle.std.specs.Prelude.{◌≡◌};
 ghost use Rattle.codec.specs.FirstByte.{found_as};
 ghost use Rattle.codec.specs.declared.ended.Unended.TheVariants as unended;
 
-use piece_reader::{Decoder, End, Found};
+use piece_reader::{Decoder, End, Found, Items};
 use std::error::Error;
 use std::fmt;
 
@@ -66,6 +66,17 @@ impl<D: Decoder> Decoder for Ended<D> {
     }
 
     ghost lawful = { λ d. ended_lawful (D.grammar d.0) (D.lawful d.0) };
+}
+
+impl<D: Items> Items for Ended<D> {
+    type Item = D::Item;
+
+    ghost item_of = { λ d. D.item_of d.0 };
+
+    #[inline(always)]
+    fn item(&self, piece: &[u8]) -> D::Item {
+        self.0.item(piece)
+    }
 }
 
 // The answer of the other decoder.

@@ -5,6 +5,7 @@ ghost use Rattle.piece_reader.specs.HeaderFormat.{NeverFollows};
 use crate::decoder::{Decoder, End, Found, Span};
 use crate::header::Header;
 use crate::header_error::HeaderError;
+use crate::items::Items;
 use crate::length_prefixed::LengthPrefixed;
 
 /// The decoder of pieces that have a header. A length above the greatest is refused before anything is added to it. Once the
@@ -74,6 +75,14 @@ impl<H: LengthPrefixed> Decoder for ByHeader<H> {
     }
 
     ghost lawful = { λ d. length_prefixed_lawful (H.header_format d.0) (H.headers d.0) };
+}
+
+impl<H: LengthPrefixed> Items for ByHeader<H> {
+    type Item = ();
+
+    ghost item_of = { λ _ _. tt };
+
+    fn item(&self, _piece: &[u8]) {}
 }
 
 // Whether the tail may come behind so many bytes, where not all of it is there.

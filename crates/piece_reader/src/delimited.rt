@@ -3,6 +3,7 @@ ghost use Rattle.std.specs.Prelude.{◌+◌, ◌<◌, ◌≤◌, ◌^◌, length
 ghost use Rattle.piece_reader.specs.Plain.{EndsAt, IsPlain};
 
 use crate::decoder::{Decoder, End, Found, Span};
+use crate::items::Items;
 use memchr::memchr;
 use std::error::Error;
 use std::fmt;
@@ -78,6 +79,14 @@ impl Decoder for Delimited {
     }
 
     ghost lawful = { λ d. delimited_lawful d.end d.max };
+}
+
+impl Items for Delimited {
+    type Item = ();
+
+    ghost item_of = { λ _ _. tt };
+
+    fn item(&self, _piece: &[u8]) {}
 }
 
 /// Where the first end is, which is none of the first `from` bytes, if that is before `to`.

@@ -5,6 +5,7 @@ ghost use Rattle.piece_reader.specs.Terminated.{NeverEnds};
 
 use crate::decoder::{Decoder, End, Found, Span};
 use crate::delimited::TooLong;
+use crate::items::Items;
 use memchr::memmem;
 
 /// Pieces of at most `max` bytes, each ended by the bytes `end`, which aren't counted: a piece goes up to where these stand
@@ -73,6 +74,14 @@ impl Decoder for Terminated {
     }
 
     ghost lawful = { λ d. terminated_lawful d.end.items d.max d.some };
+}
+
+impl Items for Terminated {
+    type Item = ();
+
+    ghost item_of = { λ _ _. tt };
+
+    fn item(&self, _piece: &[u8]) {}
 }
 
 // Where the end stands first, which is not within the first `seen` bytes.

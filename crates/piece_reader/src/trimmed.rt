@@ -4,6 +4,7 @@ ghost use Rattle.piece_reader.specs.Decoding.{bytes_at};
 ghost use Rattle.piece_reader.specs.Trimming.{IsTrimmed};
 
 use crate::decoder::{Decoder, End, Found, Span};
+use crate::items::Items;
 
 /// The pieces of another decoder, each without the carriage return that its payload may end with, as std's `lines` has them: a
 /// last one, behind which no end stands, is shown whole. A carriage return is a byte of the payload for the other decoder, so
@@ -62,6 +63,17 @@ impl<D: Decoder> Decoder for Trimmed<D> {
     }
 
     ghost lawful = { λ d. trimming_lawful (D.grammar d.0) (D.lawful d.0) };
+}
+
+impl<D: Items> Items for Trimmed<D> {
+    type Item = D::Item;
+
+    ghost item_of = { λ d. D.item_of d.0 };
+
+    #[inline(always)]
+    fn item(&self, piece: &[u8]) -> D::Item {
+        self.0.item(piece)
+    }
 }
 
 // Where the bytes are without the carriage return that they may end with.

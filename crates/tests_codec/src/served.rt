@@ -1,10 +1,14 @@
 //! Pieces of several kinds, and steps before which a writer is flushed.
 use buffer_redux::BufWriter;
-use buffer_redux::tell::{TellRead, Told};
-use codec::{ByFirst, ByHeader, ByScan, ByTextHeader, Delimited, PieceReader, fetch, fetch_item};
-use decoders::{BulkStrings, KindVarints, NullableStrings, Resp, RespItem};
+use buffer_redux::tell::{TellRead, TellWrite, Told};
+use codec::{
+    AnswerError, ByFirst, ByHeader, ByScan, ByTextHeader, Delimited, Ended, Items, PieceReader,
+    Served, Service, Terminated, Trimmed, fetch, fetch_item, serve, write_answer,
+};
+use decoders::{BulkStrings, KindVarints, Netstrings, NullableStrings, Resp, RespItem};
 use redux_script::Answer;
 use std::alloc::Global;
+use std::convert::Infallible;
 use std::io;
 use std::io::{ErrorKind, Write};
 use std::test::Fail;
@@ -124,5 +128,55 @@ fn fetches_items(rt: HostRuntime) -> Result<(), Fail> {
     for &(script, fetched) in &FETCHES {
         assert!(rt; is_fetched(rt.alloc(), script, fetched)?);
     }
+    Ok(())
+}
+
+// Answers each piece by its payload, as a line.
+#[derive(Drop)]
+struct Repeats;
+
+impl<D: Items> Service<D> for Repeats {
+    ghost use Rattle.std.specs.Prelude.{◌≡◌, [], ◌∷◌, ◌++◌};
+    ghost use Rattle.codec.specs.Answering.{NeverFails};
+
+    type Failure = Infallible;
+
+    ghost answers = { λ _ _ payload reply _ _. reply ≡ payload ++ 10 ∷ [] };
+
+    ghost fails = { NeverFails };
+
+    fn answer<W: TellWrite>(
+        &mut self,
+        _item: D::Item,
+        payload: &[u8],
+        writer: &mut BufWriter<W>,
+    ) -> Result<bool, AnswerError<Infallible>> {
+        write_answer(writer, &[payload, b"\n"], true)
+    }
+}
+
+// Whether two pieces of a stream are repeated.
+fn is_repeated<D: Items>(alloc: Global, decoder: D, stream: &[u8]) -> io::Result<bool> {
+    let mut reader = PieceReader::new(alloc, Told::new(stream), decoder)?;
+    let mut writer = BufWriter::new(alloc, Told::new(Vec::new(alloc)))?;
+    let ended = matches!(
+        serve(&mut Repeats, &mut reader, &mut writer),
+        Ok(Served::End)
+    );
+    drop(reader);
+    let repeated = writer.get_ref().get_ref().as_slice() == b"one\ntwo\n".as_slice();
+    drop(writer);
+    Ok(ended && repeated)
+}
+
+#[test]
+fn serves_ready_decoders(rt: HostRuntime) -> Result<(), Fail> {
+    let alloc = rt.alloc();
+    let commands = Ended(Trimmed(Delimited { end: b'\n', max: 9 }));
+    assert!(rt; is_repeated(alloc, commands, b"one\r\ntwo\n")?);
+    let end = Vec::from_slice(alloc, b"--")?;
+    assert!(rt; is_repeated(alloc, Terminated { end, max: 9 }, b"one--two--")?);
+    let netstrings = ByHeader(ByScan(ByTextHeader(Netstrings { max: 9 })));
+    assert!(rt; is_repeated(alloc, netstrings, b"3:one,3:two,")?);
     Ok(())
 }
