@@ -5,12 +5,18 @@ use Rattle.buffer_redux.specs.Buffered.{Buffered}
 use Rattle.buffer_redux.specs.BufWriter.{WasFlushed}
 use Rattle.buffer_redux.specs.StreamLog.{StreamLog}
 use Rattle.piece_reader.specs.Grammar.{Grammar, IsOpen}
+use Rattle.piece_reader.specs.Looking.{LooksAtRest, LooksFromLast, LookTells}
 use Rattle.piece_reader.specs.NextPiece.{StaysLeft}
 use Rattle.piece_reader.specs.PieceReader.{ReaderState, rest}
 
 -- the next step asks the stream: that hasn't ended, and what is left settles nothing
 abbrev pub MustAsk : {S D V : Type 0} → Grammar V → ReaderState S D → Type 0
 MustAsk g s = (s.ended ≡ false) × IsOpen g (rest s)
+
+-- what is left was looked at from where the last look ended; and the stream wasn't asked, or as by a step behind that look
+abbrev pub LooksToFetch : {S D V : Type 0} → (D → LookTells V) → Grammar V → ReaderState S D → ReaderState S D → Type 0
+LooksToFetch {S} {D} looks g s t = LooksAtRest looks s
+    × ((t.reader.log ≡ s.reader.log) ⊎ ((m : ReaderState S D) × StaysLeft g s m × LooksFromLast looks m t))
 
 module _ {S D V T P : Type 0} (tells : T → StreamLog) (trace : T → T → Type 0) (g : Grammar V) (s : ReaderState S D)
     (w : Buffered T P) where

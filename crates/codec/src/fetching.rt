@@ -1,13 +1,14 @@
 //! The next piece, before which replies are flushed where the stream is waited for.
-ghost use Rattle.std.specs.Prelude.{◌≡◌, ◌+◌, ◌≤◌, length, Ok, Err, IfNone, IfOk, IfSome};
+ghost use Rattle.std.specs.Prelude.{◌≡◌, ◌+◌, ◌≤◌, length, Ok, Err, IfNone, IfOk, IfSome, OnOk};
 ghost use Rattle.std.specs.declared.io.Error.{Error};
 ghost use Rattle.buffer_redux.specs.Faults.{IsInterrupt, interrupt_limit};
 ghost use Rattle.codec.specs.AskedAgain.{FetchesItem, InARow};
-ghost use Rattle.codec.specs.Fetching.{FlushedFirst, FlushesToAsk};
+ghost use Rattle.codec.specs.Fetching.{FlushedFirst, FlushesToAsk, LooksToFetch};
 ghost use Rattle.piece_reader.specs.declared.error.NextError.TheVariants.{Io};
 ghost use Rattle.piece_reader.specs.Decoding.{IsLent};
 ghost use Rattle.piece_reader.specs.Grammar.{IsOpen};
 ghost use Rattle.piece_reader.specs.Items.{NextItem};
+ghost use Rattle.piece_reader.specs.Looking.{LookSays};
 ghost use Rattle.piece_reader.specs.NextPiece.{NextPiece, load_answer};
 ghost use Rattle.piece_reader.specs.PieceReader.{rest};
 
@@ -38,6 +39,8 @@ pub fn fetch<R: TellRead, D: Decoder, W: TellWrite, P: WriterPolicy>(
 ) -> io::Result<Result<Option<Span>, NextError<D::Wrong>>>
     ensures lends { IfOk result (λ answer. IfOk answer (λ found. IfSome found
         (IsLent (D.grammar reader.new.decoder) reader.new.handed reader.new.reader.block.bytes))) }
+    ensures looked { OnOk result (LooksToFetch (LookSays D.grammar D.looks) (D.grammar reader.old.decoder) reader.old
+        reader.new) }
     ensures next { IfOk result (λ answer. NextPiece R.remaining (D.grammar reader.old.decoder) reader.old
         (load_answer answer reader.new) reader.new) }
     ensures first { FlushedFirst W.log W.trace (D.grammar reader.old.decoder) reader.old writer.old result
