@@ -10,8 +10,9 @@ use memchr::memmem;
 
 /// Pieces of at most `max` bytes, each ended by the bytes `end`, which aren't counted: a piece goes up to where these stand
 /// first. Behind `max` bytes the first one with which none can be there is too many. What stands behind the last end is a piece
-/// too, where it is something; `Ended` of `codec` refuses that. One byte is a [`Delimited`](crate::Delimited). `end` has a byte
-/// or more, and with it `max` is below 2^63.
+/// too, where it is something; `Ended` of `codec` refuses that. If it is more than `max` bytes, it is [`TooLong`] too, though it
+/// may go on to the end, so the next call asks again. One byte is a [`Delimited`](crate::Delimited). `end` has a byte or more,
+/// and with it `max` is below 2^63.
 ///
 /// ```
 /// let end = Vec::from_slice(alloc, b"\r\n\r\n")?;

@@ -1,4 +1,4 @@
-//! Packet lines, as git has them: four digits in hexadecimal say how long a packet is, themselves among it.
+//! Packet lines, as git sends those that have a payload: four digits in hexadecimal say how long one is, themselves among it.
 ghost use Rattle.std.specs.Prelude.{◌≡◌};
 ghost use Rattle.tests_codec.specs.Packets.{behind, digit_of};
 
