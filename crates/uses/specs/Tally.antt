@@ -30,9 +30,13 @@ module _ {S P : Type 0} (remaining : S → Option (List ℕ)) (rules : ReadRules
   ReadsLines n s t = (lines : List (List ℕ)) × (last : Buffered S P) × HandsLines lines s last × (n ≡ length lines)
       × HandsLine last [] t
 
-  -- lines were handed out, and then a `read_until` of the next, which got so far, failed with this error; or they are more
-  -- than a `u64` counts
+  -- behind so many lines a `read_until` of the next, which got so far, failed with this error; or they are more than a `u64`
+  -- counts
+  abbrev pub StopsBehind : ℕ → Error → Buffered S P → Buffered S P → Type 0
+  StopsBehind n e last t = ((got : List ℕ) × ReadsUntil remaining rules 10 last [] (Err e) got t)
+      ⊎ ((error_kind e ≡ Other) × (2 ^ 64 ≤ n + 1) × (t ≡ last))
+
+  -- lines were handed out, and the next stopped so
   abbrev pub StopsInLines : Error → Buffered S P → Buffered S P → Type 0
   StopsInLines e s t = (lines : List (List ℕ)) × (last : Buffered S P) × HandsLines lines s last
-      × (((got : List ℕ) × ReadsUntil remaining rules 10 last [] (Err e) got t)
-      ⊎ ((error_kind e ≡ Other) × (2 ^ 64 ≤ length lines + 1) × (t ≡ last)))
+      × StopsBehind (length lines) e last t

@@ -12,9 +12,9 @@ const FULL: Answer = Answer::Fail(ErrorKind::StorageFull);
 
 // What of these lines a device took that fails so, and whether the filter ended well.
 fn filters(alloc: Global, faults: &[Answer]) -> io::Result<(LineWriter<Target>, bool)> {
-    let reader = BufReader::new(alloc, Told::new(b"no one\nany one\nany other\n".as_slice()))?;
+    let mut reader = BufReader::new(alloc, Told::new(b"no one\nany one\nany other\n".as_slice()))?;
     let mut writer = LineSender::new(LineWriter::new(alloc, target(alloc, faults)?)?);
-    let ended = matching(alloc, reader, &mut writer, "any").is_ok();
+    let ended = matching(alloc, &mut reader, &mut writer, b"any").is_ok();
     Ok((writer.into_inner(), ended))
 }
 
@@ -30,7 +30,7 @@ fn copies_lines_up_to_one_that_fails(rt: HostRuntime) -> Result<(), Fail> {
 
 // The same from a slice to a device of std, and what that took. The last fault is met as the writer is dropped.
 static FILTERED: [(&[Answer], bool, &'static [u8]); 2] = [
-    (&[], true, b"one\none more\n"),
+    (&[], true, b"one\none more"),
     (&[Answer::Serve(3), FULL, FULL, FULL], false, b"one"),
 ];
 
@@ -39,7 +39,7 @@ fn filters_streams_of_std(rt: HostRuntime) -> Result<(), Fail> {
     for &(script, ends, taken) in &FILTERED {
         let mut device = ScriptWriter::new(rt.alloc(), script)?;
         let lines = b"one\ntwo\none more".as_slice();
-        let ended = filter(rt.alloc(), lines, &mut device, "one").is_ok();
+        let ended = filter(rt.alloc(), lines, &mut device, b"one").is_ok();
         assert!(rt; ended == ends && device.taken() == taken);
     }
     Ok(())

@@ -21,24 +21,26 @@ returns g c =
     let made = c.in_ok-new.ensures.made.made in
     let is : s ≡ c.in_ok-new.field-0 = c.new-lines.ensures in
     let inner = ap (λ x. x.inner) is ∙ made.inner in
-    let along = FlushedAlong-of _ _ _ (ToldWrites-joins g.W.Write.contents) s m c.matching.new.writer went.out _
-    went.along ended.1 in
-    let held = FlushedAlong-held g.W.Write.contents line_rules s went.out c.matching.new.writer
-    (ap (λ x. x.log) is ∙ made.log ∙ sym (ap told_log inner)) along in
+    let made = c.in_ok-new.ensures.made.made in
+    let is : s ≡ c.in_ok-new.field-0 = c.new-lines.ensures in
+    let inner = ap (λ x. x.inner) is ∙ made.inner in
     let before : told_stream s.inner ≡ c.args.to = ap told_stream inner ∙ c.new-3.ensures.stream in
     let after : told_stream c.matching.new.writer.inner ≡ c.into_inner-2.result =
     sym (c.into_inner-2.ensures
     ∙ ap told_stream (c.into_inner_with_buffer.ensures.inner ∙ ap (λ x. x.inner) c.into_inner.ensures)) in
     let none : s.block.bytes ≡ [] = ap (λ x. x.block.bytes) is ∙ made.new.bytes in
-    IfSome_then (g.R.Read.remaining c.args.from) known (λ text (rest, left, are). record {
-      lines = lines;
-      rest = rest;
-      are = are;
-      all = elim ended.0 [
-        | inl (end, none) ↦ inl (rw left at (ReadsToEnd-known _ _ last [] end (λ xs. xs ≡ []) none refl))
-        | inr many ↦ inr many
-      ];
-      out = went.out;
-      goes_on = went.goes_on;
-      written = rw (before, after, none) at held;
-    })
+    elim ended [
+      | inr odd ↦ absurd odd
+      | inl (at, end, flushed) ↦
+          let along = FlushedAlong-of _ _ _ (ToldWrites-joins g.W.Write.contents) s m c.matching.new.writer went.out _ went.along
+          flushed in
+          let held = FlushedAlong-held g.W.Write.contents line_rules s went.out c.matching.new.writer
+          (ap (λ x. x.log) is ∙ made.log ∙ sym (ap told_log inner)) along in
+          IfSome_then (g.R.Read.remaining c.args.from) known (λ text (rest, left, are). record {
+            lines = lines;
+            are = rw (rw left at (ReadsToEnd-known _ _ last [] c.matching.new.reader (λ xs. xs ≡ []) end refl)) at are;
+            out = went.out;
+            goes_on = went.goes_on;
+            written = rw (before, after, none) at held;
+          })
+    ]
