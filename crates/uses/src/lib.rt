@@ -1,4 +1,4 @@
-//! Uses of `buffer_redux` and `codec`, each short enough to copy, proved by its public contracts alone, and run by a test.
+//! Uses of the libraries, each short enough to copy, proved by their public contracts alone, and run by a test.
 //!
 //! Begin with [`line_count`]: a loop over `fill_buf` and `consume` whose contract names the bytes.
 #![tactic(auto)]
