@@ -214,8 +214,6 @@ impl<W: TellWrite, P> BufWriter<W, P> {
 
     /// Sends all that is buffered, without a flush of the inner writer. Where that fails, just what the inner writer took is
     /// no longer buffered, so the call can be made again.
-    ///
-    /// The original has no such call: it sends all only where it flushes too.
     pub fn send(&mut self) -> io::Result<()>
         ensures all { OnOk result ((self.new.block.bytes ≡ [])
             × (self.new.log.writes.received ≡ self.old.log.writes.received ++ self.old.block.bytes)) }

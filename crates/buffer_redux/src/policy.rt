@@ -49,13 +49,15 @@ pub trait ReaderPolicy {
 
     /// Asked in every fill before each read into the buffer, and again after one that gave bytes. A fill reads only where this
     /// says so and leaves usable space. `read_into_buf`, `peek`, and `read_line` behind a part of a character, don't ask, nor
-    /// does a `read` that goes past an empty buffer. An `Err` ends the reader's call.
+    /// does a `read` that goes past an empty buffer. An `Err` ends the reader's read or fill; of the kind `Interrupted` that may
+    /// be made again, as where the stream was interrupted.
     ///
     /// [`read_when_empty`] is the original's default.
     fn before_read(&mut self, buffer: &mut Buffer) -> io::Result<DoRead>
         ensures { BeforeRead rules self.old buffer.old result self.new buffer.new };
 
-    /// Told that `amt` bytes were consumed just now. A policy that doesn't care has an empty body.
+    /// Told that `amt` bytes were consumed just now. A seek, also `seek_relative` forward within what is buffered, isn't told. A
+    /// policy that doesn't care has an empty body.
     fn after_consume(&mut self, buffer: &mut Buffer, amt: usize)
         ensures { AfterConsume rules self.old buffer.old amt self.new buffer.new };
 }
@@ -65,7 +67,8 @@ pub trait WriterPolicy {
     // What the calls may return and change beside the law, and what the policy claims.
     ghost rules: { WriteRules Self } = { any_write_rules };
 
-    /// Asked before `incoming` bytes are written, for the amount to send first. An `Err` ends the writer's call.
+    /// Asked before `incoming` bytes are written, for the amount to send first. An `Err` ends the writer's write; of the kind
+    /// `Interrupted` that may be made again, as where the stream was interrupted.
     ///
     /// [`flush_when_full`] is the original's default.
     fn before_write(&mut self, buf: &mut Buffer, incoming: usize) -> io::Result<FlushAmt>

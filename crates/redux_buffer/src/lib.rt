@@ -40,6 +40,7 @@ pub const MAX_CAPACITY: usize = 1 << 62;
 /// The greatest capacity of a ring, in bytes.
 pub const MAX_RING: usize = 1 << 61;
 
-/// How many `Interrupted` in a row are retried by a call that goes on until all is done, as one that sends, copies, or reads up
-/// to a byte.
+/// How many turns in a row that end as `Interrupted` are made again by a call that goes on until all is done. A turn is the
+/// call's own: a write of one that sends, a turn of a copy, a read of a `read_exact`, a fill of one that reads up to a byte, also
+/// where bytes came of it, or a whole write of a `write_all`, which may have sent so often itself.
 pub const INTERRUPT_LIMIT: u32 = 64;
