@@ -5,8 +5,10 @@ A body that does nothing and answers `Err(Other)` at once must not meet a contra
 was done: the table has it, below the call's file, as `call, call: clause, clause`, each clause on each call. `ensures` is a lone
 one, which has no name. Where there is none, a reason stands in brackets:
 
-- `(memory)`: the error says that a buffer, a list or a record could not be made or grow; no contract says that memory is left;
-- `(rules)`: the type answers for the call itself, as a policy, a decoder or a filter does, by what its trait's clauses cite;
+- `(memory)`: the error says that a buffer, a list or a record could not be made or grow; no contract says that memory is left,
+  and no clause of the call that it does without, or how much it wanted;
+- `(rules)`: the type answers for the call itself, as a policy, a decoder or a filter does, by its trait's clauses, and what these
+  cite;
 - `(only tested)`: what fails is a stream of std, or memory, and std says no more of it.
 
 A public call is a `pub fn`, or one of a trait's that a type has; texts (`fmt`) are left out. Who adds a row with a clause tries
@@ -22,6 +24,8 @@ TABLE = TOP / "tests" / "causes.txt"
 LEFT_OUT = ("bench", "bufcopy", "replay")
 NO_CLAUSE = ("(memory)", "(rules)", "(only tested)")
 REFUSALS = ("AllocError", "GrowError", "MakeError")
+# Where a call does without memory, or how much it wanted.
+NEEDS = ("succeeds", "kept", "wanted", "full", "stopped")
 TOKEN = re.compile(r"""//[^\n]*|"(?:\\.|[^"\\])*"|'(?:\\.|[^'\\])'|[(){}]""", re.S)
 
 
@@ -92,8 +96,10 @@ def wrong_in(rows, found):
         for returned, clauses in found.get((file, call), ()):
             if why not in NO_CLAUSE:
                 wrong += [f"{number}: `{call}` has no clause `{it}`" for it in why.split(", ") if it not in clauses]
-            elif why == "(memory)" and not any(it in returned for it in REFUSALS):
-                wrong.append(f"{number}: `{call}` fails for more than memory")
+            elif why == "(memory)":
+                wrong += [f"{number}: `{call}` has the clause `{it}`" for it in clauses if it in NEEDS]
+                if not any(it in returned for it in REFUSALS):
+                    wrong.append(f"{number}: `{call}` fails for more than memory")
     told = {(file, call) for _, file, call, _ in rows}
     wrong += [f"`{call}` of {file} is not in the table" for file, call in found if (file, call) not in told]
     return [f"tests/{TABLE.name}: {it}" for it in wrong]
