@@ -155,6 +155,24 @@ pub fn twice(alloc: Global, trial: &mut Trial) {
     }
 }
 
+// Past a limit nothing grows, and no memory is asked for: `tests/shell.sh` sees a refusal that a run doesn't tell.
+fn stays_within(trial: &mut Trial, buf: &mut Buffer) {
+    trial.granted(buf.set_limit(65536).is_ok());
+    let before = print(buf);
+    let is_too_large = matches!(buf.reserve(1 << 20), Err(GrowError::TooLarge));
+    trial.sees(is_too_large, "a growth past a limit");
+    trial.unchanged(buf, before);
+}
+
+pub fn limited(alloc: Global, trial: &mut Trial) {
+    for is_ring in [false, true] {
+        match placed(alloc, is_ring) {
+            Ok(mut buf) => stays_within(trial, &mut buf),
+            Err(e) => trial.refused(e),
+        }
+    }
+}
+
 // What doesn't fit grows the buffer by twice its length.
 fn push(trial: &mut Trial, buf: &mut Buffer, held: &[u8], capacity: usize) {
     let before = print(buf);

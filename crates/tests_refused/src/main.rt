@@ -21,6 +21,7 @@ fn checks(alloc: Global, trial: &mut Trial) {
     makers::of_frames(alloc, trial);
     growths::blocks(alloc, trial);
     growths::twice(alloc, trial);
+    growths::limited(alloc, trial);
     growths::pushes(alloc, trial);
     calls::over_placed(alloc, trial);
     calls::from_nothing(alloc, trial);
