@@ -16,6 +16,16 @@ use std::io::ErrorKind;
 /// most. A flush that is interrupted isn't made again: this ends by `Cause::Write`. An `Err` says which side stopped,
 /// and why, and how many payloads went over: where what came was wrong, or a read failed, all of these were sent and flushed.
 /// Behind a read that failed this may be called again, and goes on with what is buffered.
+///
+/// By a filter of `piece_filter`, with an `Answer` of `uses`:
+///
+/// ```
+/// let source = PieceReader::new(alloc, stream, ByHeader(lengths))?;
+/// let target = BufWriter::new(alloc, Told::new(Vec::new(alloc)))?;
+/// let mut link = Link::new(Answering::new(source, target, Sifted));
+/// let went = forward(&mut link);
+/// assert!(rt; matches!(went, Ok(4)));
+/// ```
 pub fn forward<F: Filter>(link: &mut Link<F>) -> Result<u64, Stopped<F::Wrong>>
     requires ready { F.rules.ready link.old.filter }
     requires fresh { F.rules.fresh link.old.filter }

@@ -37,6 +37,20 @@ pub enum Stop {
 }
 
 /// A reader of requests that stands before a head, or at the end of the stream.
+///
+/// ```
+/// let stream = b"PUT / HTTP/1.1\r\nHost: a\r\nContent-Length: 5\r\n\r\nhello".as_slice();
+/// let requests = Requests::new(alloc, Told::new(stream))?;
+/// let mut body = requests
+///     .next()
+///     .map_err(|_| io::Error::from(ErrorKind::Other))?;
+/// let mut out = [0; 8];
+/// assert!(rt; matches!(body.read(&mut out), Ok(5)));
+/// let requests = body
+///     .finish()
+///     .map_err(|_| io::Error::from(ErrorKind::Other))?;
+/// assert!(rt; matches!(requests.next(), Err((_, Stop::Ended))));
+/// ```
 #[derive(Drop)]
 pub struct Requests<R: Tell> {
     alloc: Global,

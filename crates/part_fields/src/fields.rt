@@ -121,6 +121,12 @@ fn line(text: &[u8]) -> &[u8]
 
 /// The value of the first field of this name, whatever the case of its letters, in a head, which begins with the end of the line
 /// before its first field, as `multipart` lends one. A value that goes on in further lines has their ends in it.
+///
+/// ```
+/// let head = b"\r\nContent-Disposition: form-data; name=\"a\"".as_slice();
+/// let said = field(head, b"content-disposition").unwrap_or(b"");
+/// assert!(rt; parameter(said, b"name") == Some(b"a".as_slice()));
+/// ```
 pub fn field<'a>(head: &'a [u8], name: &[u8]) -> Option<&'a [u8]>
     ensures value { option_copied result ≡ field_of head.now name.now }
 {

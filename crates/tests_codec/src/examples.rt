@@ -6,6 +6,9 @@ use codec::{
     Terminated, TooLong, Trimmed, WritePieceError,
 };
 use decoders::{BulkStrings, Lengths, Netstrings, Order, Width};
+use messages::{Requests, Stop};
+use std::io;
+use std::io::ErrorKind;
 use std::test::Fail;
 
 #[test]
@@ -139,4 +142,21 @@ fn packets(rt: HostRuntime) -> Result<(), Fail> {
     assert!(rt; matches!(reader.next(), Ok(Some(b"b"))));
     assert!(rt; matches!(reader.next(), Ok(None)));
     Ok(drop(reader))
+}
+
+#[test]
+fn requests(rt: HostRuntime) -> Result<(), Fail> {
+    let alloc = rt.alloc();
+    let stream = b"PUT / HTTP/1.1\r\nHost: a\r\nContent-Length: 5\r\n\r\nhello".as_slice();
+    let requests = Requests::new(alloc, Told::new(stream))?;
+    let mut body = requests
+        .next()
+        .map_err(|_| io::Error::from(ErrorKind::Other))?;
+    let mut out = [0; 8];
+    assert!(rt; matches!(body.read(&mut out), Ok(5)));
+    let requests = body
+        .finish()
+        .map_err(|_| io::Error::from(ErrorKind::Other))?;
+    assert!(rt; matches!(requests.next(), Err((_, Stop::Ended))));
+    Ok(())
 }

@@ -1,4 +1,5 @@
-//! Bodies in the chunked coding.
+//! Bodies of a length, and in the chunked coding.
+use body_reader::{BodyReader, Sized};
 use buffer_redux::tell::Told;
 use buffer_redux::{BufReader, BufWriter};
 use chunked::{
@@ -8,6 +9,19 @@ use chunked::{
 use std::io;
 use std::io::Write;
 use std::test::Fail;
+
+#[test]
+fn body_reader(rt: HostRuntime) -> Result<(), Fail> {
+    let alloc = rt.alloc();
+    let reader = BufReader::new(alloc, Told::new(b"helloGET".as_slice()))?;
+    let mut body = BodyReader::new(reader, Sized(5));
+    let mut out = [0; 8];
+    assert!(rt; matches!(body.read_payload(&mut out), Ok(5)));
+    assert!(rt; matches!(body.read_payload(&mut out), Ok(0)));
+    let rest = body.finish().map_err(|(_, e)| io::Error::from(e))?;
+    assert!(rt; rest.buffer() == b"GET".as_slice());
+    Ok(drop(rest))
+}
 
 #[test]
 fn chunked_reader(rt: HostRuntime) -> Result<(), Fail> {

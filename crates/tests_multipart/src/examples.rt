@@ -2,8 +2,8 @@
 use crate::parts::{LIMITS, parts_of};
 use buffer_redux::BufReader;
 use buffer_redux::policy::{MinBuffered, ReaderPolicy};
-use buffer_redux::tell::TellRead;
-use multipart::{Multipart, field, parameter};
+use buffer_redux::tell::{TellRead, Told};
+use multipart::{Limits, Multipart, field, parameter};
 use redux_script::Answer;
 use std::alloc::Global;
 use std::io;
@@ -46,6 +46,34 @@ fn reads_a_part(rt: HostRuntime) -> Result<(), Fail> {
     let form = b"--AaB03x\r\nContent-Disposition: form-data; name=\"a\"\r\n\r\nhello\r\n--AaB03x--";
     let reader = reader(alloc, 16, b"", source(alloc, form, &[])?)?;
     assert!(rt; text_of(alloc, reader, b"a")?.as_slice() == b"hello".as_slice());
+    Ok(())
+}
+
+#[test]
+fn multipart(rt: HostRuntime) -> Result<(), Fail> {
+    let alloc = rt.alloc();
+    let form = b"--AaB03x\r\nContent-Type: text/plain\r\n\r\nhello\r\n--AaB03x--".as_slice();
+    let limits = Limits {
+        head: 16384,
+        parts: 100,
+    };
+    let reader = BufReader::new(alloc, Told::new(form))?;
+    let mut parts = Multipart::new(alloc, reader, b"AaB03x", limits).map_err(|_| io::Error::from(
+        ErrorKind::InvalidInput,
+    ))?;
+    assert!(rt; matches!(parts.next_part(), Ok(true)));
+    assert!(rt; field(parts.head(), b"content-type") == Some(b"text/plain".as_slice()));
+    let mut text = [0; 8];
+    assert!(rt; matches!(parts.read(&mut text), Ok(5)));
+    assert!(rt; matches!(parts.next_part(), Ok(false)));
+    Ok(drop(parts))
+}
+
+#[test]
+fn fields(rt: HostRuntime) -> Result<(), Fail> {
+    let head = b"\r\nContent-Disposition: form-data; name=\"a\"".as_slice();
+    let said = field(head, b"content-disposition").unwrap_or(b"");
+    assert!(rt; parameter(said, b"name") == Some(b"a".as_slice()));
     Ok(())
 }
 
