@@ -10,8 +10,9 @@ is_end b = (b == 13) || (b == 10)
 abbrev pub behind_blank : List ℕ → List ℕ
 behind_blank bytes = drop (prefix_len is_end bytes) bytes
 
+-- an LF alone may end a line too (RFC 9112, section 2.2)
 abbrev pub first_len : List ℕ → ℕ
-first_len text = prefix_len (λ b. not (b == 13)) text
+first_len text = prefix_len (λ b. not (is_end b)) text
 
 abbrev pub first_line : List ℕ → List ℕ
 first_line text = take (first_len text) text

@@ -18,7 +18,9 @@ pub(crate) fn first_len(text: &[u8]) -> usize
     ensures value { result ≡ first_len text.now }
     ensures within { result ≤ length text.now }
 {
-    text.iter().take_while(|b| **b != b'\r').count()
+    text.iter()
+        .take_while(|b| !(**b == b'\r' || **b == b'\n'))
+        .count()
 }
 
 pub(crate) fn has_other_version(line: &[u8]) -> bool

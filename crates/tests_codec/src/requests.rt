@@ -9,8 +9,8 @@ use std::io;
 use std::test::Fail;
 use tests_common::{Log, Source, holding, kind, read, source};
 
-// Heads, and what they say by RFC 9112, sections 3, 6 and 9.3, and RFC 9110, section 10.1.1, or why they are none.
-static HEADS: [(&'static [u8], &'static [u8]); 8] = [
+// Heads, and what they say by RFC 9112, sections 2.2, 3, 6 and 9.3, and RFC 9110, sections 2.5 and 10.1.1, or why they are none.
+static HEADS: [(&'static [u8], &'static [u8]); 9] = [
     (b"GET / HTTP/1.1\r\nHost: a\r\n\r\n", b"Sized(0) keeps met"),
     (
         b"HEAD / HTTP/1.1\r\nHost: a\r\nConnection: close\r\n\r\n",
@@ -34,11 +34,14 @@ static HEADS: [(&'static [u8], &'static [u8]); 8] = [
         b"Sized(0) keeps met",
     ),
     (b"GET / HTTP/1.1\r\n\r\n", b"Refused"),
+    (b"GET / HTTP/1.2\nHost: a\n\n", b"Sized(0) keeps met"),
 ];
 
-static NONE: [(&'static [u8], &'static [u8]); 7] = [
+static NONE: [(&'static [u8], &'static [u8]); 9] = [
     (b"GET / HTTP/1.1\r\nHost: a\r\n\r\nb", b"Refused"),
     (b"GET / HTTP/2.0\r\nHost: a\r\n\r\n", b"Version"),
+    (b"GET / HTTP/2.0\nHost: a\n\n", b"Version"),
+    (b"GET /\nX: HTTP/2.0\r\n\r\n", b"Refused"),
     (b"CONNECT a:80 HTTP/1.1\r\nHost: a:80\r\n\r\n", b"Tunnel"),
     (
         b"PUT / HTTP/1.1\r\nHost: a\r\nContent-Length: 5\r\nContent-Length: 6\r\n\r\n",
