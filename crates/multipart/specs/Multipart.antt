@@ -91,6 +91,7 @@ pub record IsBegun {S Q : Type 0} (reader : Buffered S Q) (boundary : List ℕ) 
   pub room : t.body.coding.room ≡ length boundary + 4
   pub body : t.body ≡ begun (codes t.body.coding) reader t.body.coding
   pub head : t.head ≡ []
+  pub unreserved : t.room ≡ 0
   pub stand : t.stand ≡ Preamble
   pub parts : t.parts ≡ 0
   pub limited : t.limits ≡ limits
