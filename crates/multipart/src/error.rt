@@ -14,8 +14,8 @@ pub enum PartError {
     Truncated,
     /// The stream failed.
     Io(io::Error),
-    /// A boundary goes on neither with two hyphens nor with blanks and the end of its line, or stands in a head. Each further
-    /// call says so.
+    /// A boundary goes on neither with two hyphens nor with 998 blanks at most and the end of its line, or stands in a head. Each
+    /// further call says so.
     Boundary,
     /// A head has more bytes than the limit. Each further call says so.
     LongHead,
