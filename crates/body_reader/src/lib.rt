@@ -1,4 +1,4 @@
-//! Bodies of a stream: parts that needn't fit in memory, and whose end shows only as they are read. What a body is a coding says.
+//! Bodies of a stream: parts that needn't fit in memory. What a body is a coding says.
 //!
 //! A [`BodyReader`] hands out the payload of one body, and leaves what follows the body in the buffered reader.
 //!

@@ -301,7 +301,7 @@ impl<R: TellRead, C: Coding, P: ReaderPolicy> BodyReader<R, C, P> {
     }
 
     /// Takes the rest of the body, and appends its payload to `out`, but no piece with which that would have more than `most`
-    /// bytes.
+    /// bytes. How much memory `out` takes for them the kit's `Vec` says, which promises no bound.
     pub fn collect(&mut self, most: usize, out: &mut Vec<u8>) -> Result<(), CollectError<C::Wrong>>
         ensures appended { (payload : List ℕ) × (vec_items out.new ≡ vec_items out.old ++ payload)
             × (0 < length payload → length (vec_items out.new) ≤ most)
