@@ -115,9 +115,6 @@ module _ {S Q C P W : Type 0} (remaining : S → Option (List ℕ)) (rules : Rea
   full_handed : (a : Result ℕ (BodyError W)) → Ends a → IfOk a (λ n. (n ≡ length out) ⊎ (k' ≡ 0))
   full_handed a ends = grind arith
 
-  nothing_done : (r' ≡ r) × (q ≡ p) × (k' ≡ k) → after ≡ record (seen r c p calls k) { calls = calls' }
-  nothing_done (reader, place, few) = cc
-
   idle : (TookWholeBody g (seen r c p calls k) ⊎ (length out ≡ 0))
       → after ≡ record (seen r c p calls k) { calls = calls' }
   idle either = grind (arith, Leads-done, none_there)

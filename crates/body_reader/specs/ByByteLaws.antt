@@ -152,13 +152,6 @@ module _ {P W : Type 0} (t : TurnRules P W) where
       let head : x ≡ y = (let same = agree.2 in cc) in
       let odd : Wrong why ≡ Passed c.0 = sym wrong.1 ∙ ap (λ b. t.turn p b) head ∙ c.1 in cc
 
-  -- it is wrong for one reason, however it goes on
-  reason : (p : P) (shown : List ℕ) (why other : W) → IsWrongTurn t p shown why → IsWrongTurn t p shown other → why ≡ other
-  reason p shown why other wrong so = grind arith
-
-  stays : (p : P) (shown more : List ℕ) (why : W) → IsWrongTurn t p shown why → IsWrongTurn t p (shown ++ more) why
-  stays p shown more why wrong = grind arith
-
   -- no bytes begin with two bodies
   only_one : (p : P) (a b x y xs ys : List ℕ) → CompletesByTurns t p a x → CompletesByTurns t p b y → a ++ xs ≡ b ++ ys
       → (a ≡ b) × (x ≡ y)
@@ -180,13 +173,6 @@ module _ {P W : Type 0} (t : TurnRules P W) where
       let found = only_one c.0 a b x y xs ys c.2 other tail in
       (ap (λ l. h ∷ l) found.0 ∙ ap (λ z. z ∷ b) head, found.1)
 
-  -- nothing is payload whatever it is
-  none_sure : AreLawful t → (p : P) (n : ℕ) → ¬ Carries (by_byte t) p n []
-  none_sure lawful p n sure =
-      let other = lawful.other p in
-      let kept = sure.carries (other.0 ∷ []) [] (other.0 ∷ []) (omega (arith, sure.some)) refl in
-      other.1 kept.1.1 kept.1.2
-
   pub by_byte_lawful : AreLawful t → IsLawful (by_byte t)
   by_byte_lawful lawful = record {
     some = omega arith;
@@ -194,9 +180,12 @@ module _ {P W : Type 0} (t : TurnRules P W) where
     alive = λ p is. lawful.alive p;
     nothing = λ p payload is c. c.1;
     never = λ p shown why rest payload is. never p shown why rest payload;
-    reason = λ p shown why other is. reason p shown why other;
-    stays = λ p shown more why is. stays p shown more why;
-    sure = λ p n is carries. absurd (none_sure lawful p n carries);
+    reason = λ p shown why other is wrong so. grind arith;
+    stays = λ p shown more why is wrong. grind arith;
+    sure = λ p n is sure.
+        let other = lawful.other p in
+        let kept = sure.carries (other.0 ∷ []) [] (other.0 ∷ []) (omega (arith, sure.some)) refl in
+        absurd (other.1 kept.1.1 kept.1.2);
     one = only_one t.first;
   }
 

@@ -1,16 +1,11 @@
 -- Where the bytes left are no front of the delimiter it begins nowhere, so the first place where they are is it.
-use Rattle.std.proofs.Common.{◌≡◌, ◌≢◌, ℕ, ◌+◌, ◌-◌, ◌<◌, List, [], ◌++◌, true, false, length, take, drop, slice_index, sym, ap, subst, ◌∙◌, arith}
-use Rattle.std.proofs.Math.Seq.{take-length}
+use Rattle.std.proofs.Common.{◌≡◌, ◌≢◌, ℕ, ◌+◌, ◌-◌, ◌<◌, List, [], ◌++◌, true, false, length, take, drop, slice_index, sym, ap, ◌∙◌, arith}
 use Rattle.std.proofs.lemmas.Bool.{cases_lt}
 use Rattle.std.proofs.lemmas.Bool.Decides.{Decides-eqb}
-use Rattle.std.proofs.lemmas.List.{drop_all, drop_more, length-drop}
+use Rattle.std.proofs.lemmas.List.{drop_all, drop_more, take_rest}
 use Rattle.std.proofs.lemmas.Slice.Eq.{starts_is}
 use Rattle.body_reader.proofs.until.may_begin.Goals as goal
 use Rattle.body_reader.proofs.until.may_begin.Goals.{else-shown-at-via-else-shown-at, else-shown-at-via-then-shown-at+else-starts_with}
-
--- the bytes from a place on
-from_on : (at : ℕ) (xs : List ℕ) → take (length xs - at) (drop at xs) ≡ drop at xs
-from_on at xs = subst (λ n. take n (drop at xs) ≡ drop at xs) (length-drop at xs) (take-length (drop at xs))
 
 -- what isn't the front of the delimiter here isn't in the next place before
 goes_on : (needle shown : List ℕ) (at : ℕ)
@@ -38,7 +33,7 @@ loop-at-preserved c =
         | else-shown-at-via-then-shown-at+else-starts_with w ↦ λ rest is.
             let tells = starts_is Decides-eqb needle (take (length shown - at) (drop at shown)) w.starts_with.result
             w.starts_with.ensures.value in
-            let yes = tells.1 rest (is ∙ ap (λ l. l ++ rest) (sym (from_on at shown))) in
+            let yes = tells.1 rest (is ∙ ap (λ l. l ++ rest) (sym (take_rest shown at))) in
             let odd : false ≡ true = sym w.if-starts_with.false ∙ yes in cc
         | else-shown-at-via-else-shown-at w ↦ other_first needle shown at c.loop-at-test.true w.if-shown-at.false
       ]);
@@ -55,7 +50,7 @@ returns-then-starts_with-clause-begins c =
       within = c.loop-at.invariant.within;
       front = (
         drop (length part) needle,
-        tells.0 c.if-starts_with.true ∙ ap (λ l. l ++ drop (length part) needle) (from_on at shown),
+        tells.0 c.if-starts_with.true ∙ ap (λ l. l ++ drop (length part) needle) (take_rest shown at),
       );
       clear = c.loop-at.invariant.clear;
     }

@@ -1,7 +1,7 @@
 -- It would stand in the first bytes, or behind all but as many of them as it has.
-use Rattle.std.proofs.Common.{◌≡◌, ℕ, ◌+◌, ◌-◌, ◌≤◌, List, length, take, drop, Bool, true, false, not, MatchBool, Option, None, Some, is_some, inl, inr, ap, ◌∙◌, subst, sym, arith, length-drop}
+use Rattle.std.proofs.Common.{◌≡◌, ℕ, ◌+◌, ◌-◌, ◌≤◌, List, length, take, drop, Bool, true, false, not, MatchBool, Option, None, Some, is_some, inl, inr, ap, ◌∙◌, subst, sym, arith}
 use Rattle.std.proofs.lemmas.Bool.{cases_lt}
-use Rattle.std.proofs.lemmas.List.{length-take-le, take-append-drop, take_all}
+use Rattle.std.proofs.lemmas.List.{length-take-le, take-append-drop, take_rest}
 use Rattle.buffer_redux.specs.OccursLaws.{OccursAt-behind, OccursAt-fewer, OccursAt-later}
 use Rattle.memchr.specs.Find.{FindsNeedle, Nowhere, OccursAt}
 use Rattle.body_reader.specs.Until.{IsNowhereIn}
@@ -35,13 +35,10 @@ told needle bytes known within before (Some k) behind false same =
     λ is. is (length (take from bytes) + k)
     (subst (λ l. OccursAt l needle (length (take from bytes) + k)) (take-append-drop from bytes) there)
 
-rest_is : (bytes : List ℕ) (from : ℕ) → take (length bytes - from) (drop from bytes) ≡ drop from bytes
-rest_is bytes from = take_all (length bytes - from) (drop from bytes) (omega (arith, length-drop from bytes))
-
 pub returns : goal.returns
 returns c =
     let bytes = c.args.bytes.now in
     let at : c.saturating_sub-searched.result ≡ c.args.known - length c.args.self.now.delimiter =
     c.saturating_sub-searched.ensures ∙ ap (λ l. c.args.known - length l) c.needle.ensures in
     told c.args.self.now.delimiter bytes c.args.known c.requires.within c.requires.known c.find.result
-    (rw (← at, ← rest_is bytes c.saturating_sub-searched.result) c.find.ensures) c.is_none.result c.is_none.ensures
+    (rw (← at, ← take_rest bytes c.saturating_sub-searched.result) c.find.ensures) c.is_none.result c.is_none.ensures
