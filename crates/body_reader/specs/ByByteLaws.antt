@@ -5,7 +5,7 @@ use Rattle.std.proofs.lemmas.List.{nil_from_length}
 use Rattle.body_reader.specs.declared.coding.Look.TheVariants as look
 use Rattle.body_reader.specs.declared.by_byte.Turn.{Turn}
 use Rattle.body_reader.specs.declared.by_byte.Turn.TheVariants.{Payload, Passed, Wrong}
-use Rattle.body_reader.specs.Coding.{Agree, Carries, IsDone, IsLawful, Leads, Looks}
+use Rattle.body_reader.specs.Coding.{Agree, IsDone, IsLawful, Leads, Looks}
 use Rattle.body_reader.specs.CodingLaws.{IsOpenBelow-one, Leads-joins, Leads-none, begins_other}
 use Rattle.body_reader.specs.ByByte.{AreLawful, CompletesByTurns, IsWrongTurn, LeadsByPayload, NoPayloadNext, Ran, TurnRules, by_byte}
 

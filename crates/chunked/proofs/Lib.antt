@@ -4,4 +4,3 @@ mod Going
 pub mod Framing
 mod Written
 mod Fields
-pub mod Colons

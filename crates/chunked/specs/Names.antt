@@ -17,7 +17,7 @@ pub use Rattle.chunked.specs.Place.{BehindSize, Completes, CompletesData, Comple
 pub use Rattle.chunked.specs.Steps.{Advances, behind_size, Comes, LeadsInExtension, StepsOver, StepsTo}
 pub use Rattle.chunked.specs.Token.{IsBlank, IsTokenByte, IsValueByte}
 pub use Rattle.chunked.specs.Trailers.{IsFraming, IsFramingName, IsTrailer, lines_of}
-pub use Rattle.chunked.specs.Within.{CompletesExtension, EndsNoExtension, LeadsBy, LeadsWithin, least_left, RunsOver}
+pub use Rattle.chunked.specs.Within.{CompletesExtension, EndsNoExtension, LeadsWithin, least_left, RunsOver}
 pub use Rattle.chunked.specs.declared.error.Malformed.{Malformed}
 pub use Rattle.chunked.specs.declared.extension.Within.{Within}
 pub use Rattle.chunked.specs.declared.extension.Within.TheVariants.{BeforeName, BeforeValue, Behind, BehindName, Blank, Escaped, InName, InValue, Quoted}

@@ -1,8 +1,9 @@
 -- What a writer of a body is given as trailers, and what it does with them.
-use Rattle.std.specs.Prelude.{◌≡◌, ℕ, ◌<◌, ◌⊎◌, ◌==◌, List, [], length, map, take, get_or, codes}
+use Rattle.std.specs.Prelude.{◌≡◌, ℕ, ◌<◌, ◌⊎◌, List, [], length, map, take, get_or, codes}
 use Rattle.std.specs.Char.{to_ascii_lowercase}
 use Rattle.std.specs.Borrow.{Bor}
-use Rattle.std.specs.List.{AllByRecursion, before_first}
+use Rattle.std.specs.List.{AllByRecursion, take_while}
+use Rattle.httparse.specs.Grammar.{is_token_byte}
 use Rattle.chunked.specs.declared.error.TrailersError.{TrailersError}
 use Rattle.chunked.specs.declared.error.TrailersError.TheVariants.{NoField, Framing, TooLong, Due, Io}
 use Rattle.chunked.specs.Body.{IsField}
@@ -12,9 +13,9 @@ use Rattle.chunked.specs.Chunk.{body_end}
 abbrev pub lines_of : List (Bor (List ℕ)) → List (List ℕ)
 lines_of fields = map (λ f. f.now) fields
 
--- the name of a line of trailers: what stands in front of its first colon
+-- the name of a line of trailers: the token that it begins with
 abbrev pub name_in : List ℕ → List ℕ
-name_in line = before_first (λ b. b == 58) line
+name_in line = take_while is_token_byte line
 
 -- a line of trailers that says where the body ends, by the name of its field in any case: none may
 abbrev pub IsFramingName : List ℕ → Type 0

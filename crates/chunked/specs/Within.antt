@@ -28,25 +28,21 @@ least_left BeforeValue = 1
 least_left Quoted = 1
 least_left w = 2
 
--- where each byte leads, by what bytes are of tokens and of values
-module _ (IsToken IsValue : ℕ → Type 0) where
-  abbrev pub LeadsBy : Within → ℕ → Within → Type 0
-  LeadsBy Behind b v = (IsBlank b × (v ≡ Blank)) ⊎ ((b ≡ 59) × (v ≡ BeforeName))
-  LeadsBy Blank b v = (IsBlank b × (v ≡ Blank)) ⊎ ((b ≡ 59) × (v ≡ BeforeName))
-  LeadsBy BeforeName b v = (IsBlank b × (v ≡ BeforeName)) ⊎ (IsToken b × (v ≡ InName))
-  LeadsBy InName b v =
-      (IsBlank b × (v ≡ BehindName)) ⊎ ((IsToken b × (v ≡ InName))
-      ⊎ (((b ≡ 61) × (v ≡ BeforeValue)) ⊎ ((b ≡ 59) × (v ≡ BeforeName))))
-  LeadsBy BehindName b v =
-      (IsBlank b × (v ≡ BehindName)) ⊎ (((b ≡ 61) × (v ≡ BeforeValue)) ⊎ ((b ≡ 59) × (v ≡ BeforeName)))
-  LeadsBy BeforeValue b v = (IsBlank b × (v ≡ BeforeValue)) ⊎ ((IsToken b × (v ≡ InValue)) ⊎ ((b ≡ 34) × (v ≡ Quoted)))
-  LeadsBy InValue b v = (IsBlank b × (v ≡ Blank)) ⊎ ((IsToken b × (v ≡ InValue)) ⊎ ((b ≡ 59) × (v ≡ BeforeName)))
-  LeadsBy Quoted b v =
-      ((IsValue b × (b ≢ 34) × (b ≢ 92)) × (v ≡ Quoted)) ⊎ (((b ≡ 92) × (v ≡ Escaped)) ⊎ ((b ≡ 34) × (v ≡ Behind)))
-  LeadsBy Escaped b v = IsValue b × (v ≡ Quoted)
-
+-- where each byte leads
 abbrev pub LeadsWithin : Within → ℕ → Within → Type 0
-LeadsWithin w b v = LeadsBy IsTokenByte IsValueByte w b v
+LeadsWithin Behind b v = (IsBlank b × (v ≡ Blank)) ⊎ ((b ≡ 59) × (v ≡ BeforeName))
+LeadsWithin Blank b v = (IsBlank b × (v ≡ Blank)) ⊎ ((b ≡ 59) × (v ≡ BeforeName))
+LeadsWithin BeforeName b v = (IsBlank b × (v ≡ BeforeName)) ⊎ (IsTokenByte b × (v ≡ InName))
+LeadsWithin InName b v =
+    (IsBlank b × (v ≡ BehindName)) ⊎ ((IsTokenByte b × (v ≡ InName))
+    ⊎ (((b ≡ 61) × (v ≡ BeforeValue)) ⊎ ((b ≡ 59) × (v ≡ BeforeName))))
+LeadsWithin BehindName b v =
+    (IsBlank b × (v ≡ BehindName)) ⊎ (((b ≡ 61) × (v ≡ BeforeValue)) ⊎ ((b ≡ 59) × (v ≡ BeforeName)))
+LeadsWithin BeforeValue b v = (IsBlank b × (v ≡ BeforeValue)) ⊎ ((IsTokenByte b × (v ≡ InValue)) ⊎ ((b ≡ 34) × (v ≡ Quoted)))
+LeadsWithin InValue b v = (IsBlank b × (v ≡ Blank)) ⊎ ((IsTokenByte b × (v ≡ InValue)) ⊎ ((b ≡ 59) × (v ≡ BeforeName)))
+LeadsWithin Quoted b v =
+    ((IsValueByte b × (b ≢ 34) × (b ≢ 92)) × (v ≡ Quoted)) ⊎ (((b ≡ 92) × (v ≡ Escaped)) ⊎ ((b ≡ 34) × (v ≡ Behind)))
+LeadsWithin Escaped b v = IsValueByte b × (v ≡ Quoted)
 
 -- one can go on with this byte, but isn't completed in so many then
 pub record RunsOver (within : Within) (room b : ℕ) : Type 0 where

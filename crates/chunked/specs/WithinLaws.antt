@@ -1,32 +1,18 @@
 -- Laws of places within an extension: where each byte leads, and what stands first in what is left.
-use Rattle.std.proofs.Common.{◌≡◌, ◌≢◌, ℕ, zero, suc, ◌+◌, ◌<◌, ◌≤◌, ◌⊎◌, ◌↔◌, List, [], ◌∷◌, length, inl, inr, refl, subst, arith}
-use Rattle.chunked.specs.Names.{AllByRecursion, Assigned, BeforeName, BeforeValue, Behind, BehindName, Blank, CompletesExtension, digit_value, Escaped, InName, InValue, IsBlank, IsExtension, IsTextByte, IsTokenByte, IsValueByte, LeadsBy, LeadsWithin, least_left, nat_tests, Parameter, Parameters, Quoted, Within}
+use Rattle.std.proofs.Common.{◌≡◌, ℕ, zero, suc, ◌+◌, ◌<◌, ◌≤◌, ◌⊎◌, ◌↔◌, List, [], ◌∷◌, length, inl, inr, refl, arith}
+use Rattle.httparse.specs.Grammar.{is_token_byte}
+use Rattle.chunked.specs.Names.{AllByRecursion, Assigned, BeforeName, BeforeValue, Behind, BehindName, Blank, CompletesExtension, digit_value, Escaped, InName, InValue, IsBlank, IsExtension, IsTextByte, LeadsWithin, least_left, nat_tests, Parameter, Parameters, Quoted, Within}
 use Rattle.chunked.specs.FieldLaws.{token_plain, value_is_text}
 
-module _ (IsToken IsValue : ℕ → Type 0)
-    (plain : (b : ℕ) → IsToken b → (33 ≤ b) × (b ≢ 58) × (b ≢ 59) × (b ≢ 61) × (b ≢ 34) × (b ≢ 92))
-    (is_text : (b : ℕ) → IsValue b → IsTextByte b) where
-  one_way_by : (w : Within) (b : ℕ) (v v' : Within) → LeadsBy IsToken IsValue w b v → LeadsBy IsToken IsValue w b v' → v ≡ v'
-  one_way_by Escaped b v v' s t = cc
-  one_way_by w b v v' s t = grind (arith, plain)
-
-  no_return : (w : Within) (v : Within) → LeadsBy IsToken IsValue w 13 v → ⊥
-  no_return w v s = grind (arith, plain, is_text)
-
-  no_feed : (w : Within) (v : Within) → LeadsBy IsToken IsValue w 10 v → ⊥
-  no_feed w v s = grind (arith, plain, is_text)
-
-  nearer : (w : Within) (b : ℕ) (v : Within) → LeadsBy IsToken IsValue w b v → least_left w ≤ least_left v + 1
-  nearer w b v s = grind arith
-
 pub one_way : (w : Within) (b : ℕ) (v v' : Within) → LeadsWithin w b v → LeadsWithin w b v' → v ≡ v'
-one_way w b v v' s t = one_way_by IsTokenByte IsValueByte token_plain value_is_text w b v v' s t
+one_way Escaped b v v' s t = cc
+one_way w b v v' s t = grind (arith, token_plain)
 
 pub steps_text : (w : Within) (b : ℕ) (v : Within) → LeadsWithin w b v → IsTextByte b
-steps_text w b v s = (
-  λ is. no_return IsTokenByte IsValueByte token_plain value_is_text w v (subst (λ c. LeadsWithin w c v) is s),
-  λ is. no_feed IsTokenByte IsValueByte token_plain value_is_text w v (subst (λ c. LeadsWithin w c v) is s),
-)
+steps_text w b v s = grind (arith, token_plain, value_is_text)
+
+nearer : (w : Within) (b : ℕ) (v : Within) → LeadsWithin w b v → least_left w ≤ least_left v + 1
+nearer w b v s = grind arith
 
 -- with it in front, what is left there is left here
 on : (w : Within) (b : ℕ) (v : Within) (text : List ℕ) → LeadsWithin w b v → CompletesExtension v text
@@ -154,20 +140,21 @@ none w b never = grind (arith, first)
 
 -- so many bytes complete one, and no fewer
 pub least_some : (w : Within) → (text : List ℕ) × CompletesExtension w text × (length text ≡ least_left w)
+unfolding is_token_byte
 least_some Behind = ([], (0, refl), refl)
-least_some Blank = (59 ∷ (97 ∷ []), (0, inl (refl, inl (inl refl, inl refl))), refl)
-least_some BeforeName = (97 ∷ [], (0, inl (inl refl, inl refl)), refl)
+least_some Blank = (59 ∷ (97 ∷ []), (0, inl (refl, inl (refl, inl refl))), refl)
+least_some BeforeName = (97 ∷ [], (0, inl (refl, inl refl)), refl)
 least_some InName = ([], (0, inl refl), refl)
-least_some BehindName = (59 ∷ (97 ∷ []), (0, inl (inl (refl, inl (inl refl, inl refl)))), refl)
-least_some BeforeValue = (97 ∷ [], (0, inl (inl (inl refl, refl))), refl)
+least_some BehindName = (59 ∷ (97 ∷ []), (0, inl (inl (refl, inl (refl, inl refl)))), refl)
+least_some BeforeValue = (97 ∷ [], (0, inl (inl (refl, refl))), refl)
 least_some InValue = ([], (0, refl), refl)
 least_some Quoted = (34 ∷ [], (0, (refl, refl)), refl)
-least_some Escaped = (34 ∷ (34 ∷ []), (0, (inr (inl refl), (refl, refl))), refl)
+least_some Escaped = (34 ∷ (34 ∷ []), (0, (refl, (refl, refl))), refl)
 
 pub least_all : (w : Within) (text : List ℕ) → CompletesExtension w text → least_left w ≤ length text
 least_all w (b ∷ text) e =
     let f = first w b text e in
-    omega (arith, nearer IsTokenByte IsValueByte token_plain value_is_text w b f.next f.steps, least_all f.next text f.left)
+    omega (arith, nearer w b f.next f.steps, least_all f.next text f.left)
 least_all Behind [] e = omega arith
 least_all InName [] e = omega arith
 least_all InValue [] e = omega arith

@@ -2,7 +2,7 @@
 ghost use Rattle.std.specs.Prelude.{◌≡◌, ◌↔◌, [], MatchOption, IsTrue};
 ghost use Rattle.chunked.specs.Within.{CompletesExtension, LeadsWithin, least_left};
 
-use crate::token::{is_token_byte, is_value_byte};
+use httparse::{is_header_name_token, is_header_value_token};
 
 /// Where in an extension a reader stands.
 #[derive(Clone, Copy, Debug)]
@@ -33,49 +33,33 @@ impl Within {
         ensures { MatchOption result ((next : Within) → ¬ LeadsWithin self byte next) (LeadsWithin self byte) }
     {
         match self {
-            Within::Blank | Within::Behind => match byte {
-                b' ' | b'\t' => Some(Within::Blank),
-                b';' => Some(Within::BeforeName),
-                _ => None,
-            },
-            Within::BeforeName => match byte {
-                b' ' | b'\t' => Some(Within::BeforeName),
-                _ if is_token_byte(byte) => Some(Within::InName),
-                _ => None,
-            },
-            Within::InName => match byte {
-                b' ' | b'\t' => Some(Within::BehindName),
-                b'=' => Some(Within::BeforeValue),
-                b';' => Some(Within::BeforeName),
-                _ if is_token_byte(byte) => Some(Within::InName),
-                _ => None,
-            },
-            Within::BehindName => match byte {
+            Within::BeforeName | Within::InName if is_header_name_token(byte) => Some(
+                Within::InName,
+            ),
+            Within::BeforeValue | Within::InValue if is_header_name_token(byte) => Some(
+                Within::InValue,
+            ),
+            Within::BeforeName | Within::BeforeValue if byte == b' ' || byte == b'\t' => Some(self),
+            Within::BeforeValue if byte == b'"' => Some(Within::Quoted),
+            Within::InName | Within::BehindName => match byte {
                 b' ' | b'\t' => Some(Within::BehindName),
                 b'=' => Some(Within::BeforeValue),
                 b';' => Some(Within::BeforeName),
                 _ => None,
             },
-            Within::BeforeValue => match byte {
-                b' ' | b'\t' => Some(Within::BeforeValue),
-                b'"' => Some(Within::Quoted),
-                _ if is_token_byte(byte) => Some(Within::InValue),
-                _ => None,
-            },
-            Within::InValue => match byte {
+            Within::Blank | Within::Behind | Within::InValue => match byte {
                 b' ' | b'\t' => Some(Within::Blank),
                 b';' => Some(Within::BeforeName),
-                _ if is_token_byte(byte) => Some(Within::InValue),
                 _ => None,
             },
             Within::Quoted => match byte {
                 b'"' => Some(Within::Behind),
                 b'\\' => Some(Within::Escaped),
-                _ if is_value_byte(byte) => Some(Within::Quoted),
+                _ if is_header_value_token(byte) => Some(Within::Quoted),
                 _ => None,
             },
-            Within::Escaped if is_value_byte(byte) => Some(Within::Quoted),
-            Within::Escaped => None,
+            Within::Escaped if is_header_value_token(byte) => Some(Within::Quoted),
+            _ => None,
         }
     }
 

@@ -5,7 +5,7 @@ ghost use Rattle.chunked.specs.Steps.{Comes};
 
 use crate::limits::Limits;
 use crate::place::Place;
-use crate::step::digit;
+use httparse::parse_hex_digit;
 
 // The most digits that are looked at. As many write no size that is too large.
 const DIGITS: usize = 15;
@@ -52,9 +52,9 @@ fn read_size(limits: &Limits, start: Place, shown: &[u8], begins: usize) -> (usi
     let mut size = 0;
     let mut at = begins;
     while at < most {
-        match digit(shown[at]) {
+        match parse_hex_digit(shown[at]) {
             Some(digit) => {
-                size = size * 16 + u64::from(digit);
+                size = size * 16 + digit;
                 at += 1;
             }
             None => break,

@@ -14,7 +14,6 @@ pub mod laws;
 mod limits;
 mod place;
 mod step;
-mod token;
 mod trailers;
 mod writer;
 

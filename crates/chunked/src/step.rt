@@ -9,7 +9,7 @@ use crate::error::Malformed;
 use crate::extension::Within;
 use crate::limits::Limits;
 use crate::place::Place;
-use crate::token::{is_token_byte, is_value_byte};
+use httparse::{is_header_name_token, is_header_value_token, parse_hex_digit};
 
 // The least number that isn't the size of a chunk.
 const TOO_LARGE: u64 = 1 << 62;
@@ -25,26 +25,13 @@ pub struct Reached {
     pub wrong: Option<Malformed>,
 }
 
-/// The value of a hexadecimal digit.
-#[inline(always)]
-pub(crate) fn digit(byte: u8) -> Option<u8>
-    ensures { SomeIff result (digit_value byte < 16) (digit_value byte) }
-{
-    match byte {
-        b'0'..=b'9' => Some(byte - b'0'),
-        b'a'..=b'f' => Some(byte - b'a' + 10),
-        b'A'..=b'F' => Some(byte - b'A' + 10),
-        _ => None,
-    }
-}
-
 // The first digit of a size.
 fn begin_size(limits: &Limits, byte: u8) -> Result<Place, Malformed>
     ensures { StepsOver limits.now Place.Line byte result }
 {
-    match digit(byte) {
+    match parse_hex_digit(byte) {
         None => Err(Malformed::NoSize),
-        Some(digit) => Ok(Place::Size(u64::from(digit), limits.line.saturating_sub(1))),
+        Some(digit) => Ok(Place::Size(digit, limits.line.saturating_sub(1))),
     }
 }
 
@@ -53,12 +40,12 @@ fn in_size(number: u64, room: usize, byte: u8) -> Result<Place, Malformed>
     requires { number < 2 ^ 62 }
     ensures { (l : Limits) → StepsOver l (Place.Size number room) byte result }
 {
-    match digit(byte) {
+    match parse_hex_digit(byte) {
         None => in_extension(Within::Behind, number, room, byte),
         // The number would be too large with any digit.
         Some(_) if number >= TOO_LARGE / 16 => Err(Malformed::SizeTooLarge),
         Some(_) if room == 0 => Err(Malformed::LineTooLong),
-        Some(digit) => Ok(Place::Size(number * 16 + u64::from(digit), room - 1)),
+        Some(digit) => Ok(Place::Size(number * 16 + digit, room - 1)),
     }
 }
 
@@ -98,7 +85,7 @@ fn begin_field(room: usize, byte: u8) -> Result<Place, Malformed>
     match byte {
         b'\r' => Ok(Place::LastFeed),
         b'\n' => Err(Malformed::BareFeed),
-        _ if !is_token_byte(byte) => Err(Malformed::BadField),
+        _ if !is_header_name_token(byte) => Err(Malformed::BadField),
         // A field has a colon behind its name.
         _ if room < 2 => Err(Malformed::TrailersTooLong),
         _ => Ok(Place::FieldName(room - 1)),
@@ -113,7 +100,7 @@ fn in_name(room: usize, byte: u8) -> Result<Place, Malformed>
     match byte {
         b':' => Ok(Place::FieldValue(room - 1)),
         b'\n' => Err(Malformed::BareFeed),
-        _ if !is_token_byte(byte) => Err(Malformed::BadField),
+        _ if !is_header_name_token(byte) => Err(Malformed::BadField),
         _ if room < 2 => Err(Malformed::TrailersTooLong),
         _ => Ok(Place::FieldName(room - 1)),
     }
@@ -126,7 +113,7 @@ fn in_value(room: usize, byte: u8) -> Result<Place, Malformed>
     match byte {
         b'\r' => Ok(Place::FieldFeed(room)),
         b'\n' => Err(Malformed::BareFeed),
-        _ if !is_value_byte(byte) => Err(Malformed::BadField),
+        _ if !is_header_value_token(byte) => Err(Malformed::BadField),
         _ if room == 0 => Err(Malformed::TrailersTooLong),
         _ => Ok(Place::FieldValue(room - 1)),
     }

@@ -1,6 +1,7 @@
 //! The end of a body: the last chunk and the trailers, and how it goes into a buffered writer.
 ghost use Rattle.std.specs.Prelude.{◌≡◌, ◌↔◌, ◌^◌, ◌<◌, ◌≤◌, ◌++◌, length, IsTrue, MatchOption, IfOk, IfErr};
-ghost use Rattle.std.specs.List.{AllByRecursion};
+ghost use Rattle.std.specs.List.{AllByRecursion, prefix_len};
+ghost use Rattle.httparse.specs.Grammar.{is_token_byte};
 ghost use Rattle.buffer_redux.specs.WriteParts.{PutsIn, room};
 ghost use Rattle.chunked.specs.Body.{IsField};
 ghost use Rattle.chunked.specs.Chunk.{body_end};
@@ -8,24 +9,29 @@ ghost use Rattle.chunked.specs.Trailers.{CannotEnd, IsFramingName, IsTrailer, li
 
 use crate::chunk::put;
 use crate::error::TrailersError;
-use crate::token::{is_token, is_value};
 use buffer_redux::BufWriter;
 use buffer_redux::tell::{CallLog, TellWrite};
-use memchr::memchr;
+use httparse::{is_header_name_token, is_header_value};
 
 /// How many bytes the end of a body has where there are no trailers.
 pub(crate) const BARE_END: usize = 5;
+
+fn token_len(line: &[u8]) -> usize
+    ensures { result ≡ prefix_len is_token_byte line.now }
+{
+    line.iter()
+        .take_while(|b| is_header_name_token(**b))
+        .count()
+}
 
 // The name in this line, if it is one of trailers.
 fn name_of(line: &[u8]) -> Option<&[u8]>
     ensures { MatchOption result (¬ IsField line.now)
         (λ name. IsField line.now × (name.now ≡ name_in line.now)) }
 {
-    let Some(colon) = memchr(b':', line) else {
-        return None;
-    };
-    if is_token(&line[..colon]) && is_value(&line[colon + 1..]) {
-        Some(&line[..colon])
+    let len = token_len(line);
+    if len > 0 && len < line.len() && line[len] == b':' && is_header_value(&line[len + 1..]) {
+        Some(&line[..len])
     } else {
         None
     }

@@ -9,4 +9,4 @@ as_extension l b number room (Ok q) none steps = (inr (none, steps.0.0, steps.0.
 as_extension l b number room (Err why) none steps = inr (none, steps)
 
 pub returns-in-None : goal.returns-in-None
-returns-in-None c = λ l. as_extension l c.args.byte c.args.number c.args.room _ c.in-None.ensures (c.in_extension.ensures l)
+returns-in-None c = λ l. as_extension l c.args.byte c.args.number c.args.room _ c.in-None.ensures.exact (c.in_extension.ensures l)
