@@ -117,8 +117,8 @@ module _ {R W : Type 0} (remaining : R → Option (List ℕ)) (limits : Limits) 
 
   -- all went over
   pub ended : (count : ℕ) → ForwardAnswers rules begin (Ok count) t → Ran (Ok tt)
-  ended count (over, (held, (whole, left, dry)), sent, met) =
-      (moved_all count over held sent, sent_body count over held sent whole, left, dry, met)
+  ended count (over, (held, (whole, left, dry, offer)), sent, met) =
+      (moved_all count over held sent, sent_body count over held sent whole, left, dry, met, offer)
 
   -- the run was stopped
   pub stopped : (count : ℕ) (why : Cause InputFault) (e : RunError InputFault) → StopsBy rules count begin why t → IsErrorOf why e

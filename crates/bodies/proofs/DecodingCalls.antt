@@ -6,7 +6,7 @@ use Rattle.body_reader.specs.AskingLaws.{AskedWhere-behind}
 use Rattle.body_reader.specs.declared.error.BodyError.TheVariants as body
 use Rattle.chunked.specs.declared.place.Place.TheVariants.{Line}
 use Rattle.forward.specs.declared.error.AskError.TheVariants as ask
-use Rattle.bodies.specs.Words.{Error, Buffered, std_read_rules, StdPolicy, BodyWent, IsBodyOfChunks, IsBodyReader, TakesAll, TookWholeBody, LooksBehind, ReadsPayload, chunked, handed_of, taken_count, AskAnswers, FilterAsks, FilterRules, FilterPasses, PassAnswers, StaysOpen, taken_more, target_of, InputFault, All-cons, All-nil, nil_from_length, with_items_is, ReadLogGrows-joins, unbuffered, WritesInOrder-none, EachGave, TellsOnce, Breaks, EndsEarly, BodyWent-joins, AskedFor, LeadsOpen, Leads-joins, Leads-more, BodyError, breaks_at, Malformed, AskError, FailedToRead, SomeCame, came, bytes_taken, TakesAll-not_passed, TakesAll-passed, Decoding}
+use Rattle.bodies.specs.Words.{Error, Buffered, std_read_rules, StdPolicy, BodyWent, IsBodyOfChunks, IsBodyReader, TakesAll, TookWholeBody, LooksBehind, ReadsPayload, chunked, handed_of, taken_count, AskAnswers, FilterAsks, FilterRules, FilterPasses, PassAnswers, StaysOpen, taken_more, target_of, InputFault, All-cons, All-nil, nil_from_length, with_items_is, ReadLogGrows-joins, unbuffered, usable, IsBlock, WritesInOrder-none, EachGave, TellsOnce, Breaks, EndsEarly, BodyWent-joins, AskedFor, LeadsOpen, Leads-joins, Leads-more, BodyError, breaks_at, Malformed, AskError, FailedToRead, SomeCame, came, bytes_taken, TakesAll-not_passed, TakesAll-passed, Decoding}
 use Rattle.bodies.specs.Decode.{IsDue}
 use Rattle.bodies.specs.Decoding.{ChunkedState, HandsPayloadPieces, HoldsPiece, MayDecode, NoneBuffered, TakesPayload, ask_error, decoding_rules, end_answer, held_payload, most_wanted}
 use Rattle.bodies.specs.Decoding as Source
@@ -208,6 +208,35 @@ module _ {R W : Type 0} (remaining : R → Option (List ℕ)) {s : Decoding R W}
         done : TookWholeBody (chunked t.coding.0) t
         done = rw (looks.still, p.went.coding) (p.answers.2 nothing (omega (arith, len, ready.room)))
 
+        -- an ask that told the end was for a whole buffer
+        offered : IsBlock t.reader.block → t.reader.block.bytes ≡ []
+            → m.reader.log.reads.zero_reads < t.reader.log.reads.zero_reads → 16384 ≤ t.reader.log.reads.offer
+        offered block left dry =
+            let some : ¬ (t.reader.log ≡ m.reader.log) = λ same. omega (arith, dry, ap (λ l. l.reads.zero_reads) same) in
+            let room : t.reader.block.capacity ≤ usable t.reader.block = grind (arith, block, left) in
+            let order = looks.went.along.in_order in
+            elim looks.offer [
+              | inl same ↦ absurd (some same)
+              | inr all ↦ elim looks.asked [
+                | inl same ↦ absurd (some same)
+                | inr over ↦ omega (
+                  arith,
+                  all,
+                  room,
+                  ready.capacity,
+                  first.along.capacity,
+                  looks.went.along.capacity,
+                  ap length over.given,
+                  ap length order.given,
+                  ap length order.equal,
+                  ap length looks.went.taken,
+                  ap (λ d. length d.taken) looks.still,
+                  ap length left,
+                  length-append {A = ℕ},
+                )
+              ]
+            ]
+
         over_on : Source.AsksPromptly s.source t
         over_on = record {
           asked = AskedWhere-behind s.source.reader m.reader t.reader first.wire first.along.in_order gave Such
@@ -227,17 +256,27 @@ module _ {R W : Type 0} (remaining : R → Option (List ℕ)) {s : Decoding R W}
 
       -- none does, or some, or that can't be told
       pub asked_behind : (came : Bool) → came ≡ nat_lt (taken_count s.source) (taken_count m) → (end : Result Bool Error)
-          → LooksBehind remaining std_read_rules (chunked m.coding.0) m end t
+          → LooksBehind remaining std_read_rules (chunked m.coding.0) m end t → IsBlock t.reader.block
           → FilterAsks decoding s (end_answer came end (taken_count t)) (asked t s.held)
-      asked_behind came is (Ok true) looks =
+      asked_behind came is (Ok true) looks block =
           let met = looks.answers.1 in
-          asks_behind looks (Ok false) (omega (arith, met.1))
-          ((none, (done looks, looks.answers.0, omega (arith, met.1, gave.zero_reads))), met.0 ∙ gave.faults)
-      asked_behind came is (Ok false) looks =
+          asks_behind looks (Ok false) (omega (arith, met.1)) (
+            (
+              none,
+              (
+                done looks,
+                looks.answers.0,
+                omega (arith, met.1, gave.zero_reads),
+                offered looks block looks.answers.0 (omega (arith, met.1)),
+              ),
+            ),
+            met.0 ∙ gave.faults,
+          )
+      asked_behind came is (Ok false) looks block =
           let more = looks.answers.1 in
           asks_behind looks (end_answer came (Ok false) (taken_count t)) (omega (arith, more.zero_reads))
           ((none, (done looks, looks.answers.0, refl)), more.faults ∙ gave.faults)
-      asked_behind came is (Err e) looks =
+      asked_behind came is (Err e) looks block =
           let failed = looks.answers.1 in
           let fault = failed.0 ∙ ap (λ l. l ++ e ∷ []) gave.faults in
           asks_behind looks (end_answer came (Err e) (taken_count t)) (omega (arith, failed.1))

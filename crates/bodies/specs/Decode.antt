@@ -1,5 +1,5 @@
 -- What a run of `decode` moves from a reader to a writer.
-use Rattle.std.specs.Prelude.{◌≡◌, ℕ, ◌-◌, ◌^◌, ◌<◌, ◌⊎◌, List, [], ◌++◌, length, min, Result, Ok, Err}
+use Rattle.std.specs.Prelude.{◌≡◌, ℕ, ◌-◌, ◌^◌, ◌<◌, ◌≤◌, ◌⊎◌, List, [], ◌++◌, length, min, Result, Ok, Err}
 use Rattle.chunked.specs.Place.{IsPlace}
 use Rattle.chunked.specs.declared.place.Place.TheVariants.{Line}
 use Rattle.bodies.specs.Words.{failure_count, StreamLog, IsBodyOfChunks, BreaksAt, chunked, Limits, RunError, InputFault, RunsPromptly, MetNoFault, ReadFailed, WriteGaveUp, OverCount, RefusedBeforeCalls, GaveNothing, Leads, Malformed, Place}
@@ -28,12 +28,12 @@ abbrev pub NoPayloadLeft : {limits : Limits} {read read' written written' : Stre
 NoPayloadLeft {limits} m due = (m.unsent ≡ []) × (IsBodyOfChunks limits m.taken (m.sent ++ m.unsent)
     ⊎ ((m.rest ≡ []) ⊎ ((why : Malformed) × BreaksAt limits due.place m.taken m.rest why)))
 
--- what a run of `decode` did: at Ok all that was given is a body, and else its beginning. Where a read failed no payload that
--- came is lost
+-- what a run of `decode` did: at Ok all that was given is a body, and the last ask was for 16384 bytes or more; else it is a
+-- beginning of one. Where a read failed no payload that came is lost
 abbrev pub DecodeRan : Limits → StreamLog → StreamLog → StreamLog → StreamLog → Result (Unit {0}) (RunError InputFault) → Type 0
 DecodeRan limits read read' written written' (Ok _) =
     (m : MovedAll read read' written written') × IsBodyOfChunks limits m.moved.taken m.moved.sent × (m.moved.rest ≡ [])
-    × GaveNothing read read' × MetNoFault read read' written written'
+    × GaveNothing read read' × MetNoFault read read' written written' × (16384 ≤ read'.reads.offer)
 DecodeRan limits read read' written written' (Err (Wrong (NotChunked why right))) =
     (m : MovedAll read read' written written') × (part : IsDue limits m.moved.taken m.moved.sent)
     × BreaksAt limits part.place m.moved.taken m.moved.rest why

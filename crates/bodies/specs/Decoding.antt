@@ -4,7 +4,7 @@ use Rattle.body_reader.specs.declared.error.BodyError.TheVariants as body
 use Rattle.chunked.specs.Place.{most_between}
 use Rattle.forward.specs.declared.error.AskError.TheVariants.{Wrong}
 use Rattle.forward.specs.declared.error.AskError.TheVariants as ask
-use Rattle.bodies.specs.Words.{Error, Flushes, RanDry, WritesInOrder, Buffered, std_read_rules, StdPolicy, BodyState, BodyWent, BreaksAt, IsBodyOfChunks, IsBodyReader, TookWholeBody, LooksBehind, chunked, handed_of, taken_count, FilterRules, AllSent, target_of, InputFault, concat, All, Plain, BodyError, Chunked, Malformed, Place, AskError, Decoding}
+use Rattle.bodies.specs.Words.{Error, Flushes, IsBlock, RanDry, WritesInOrder, Buffered, std_read_rules, StdPolicy, BodyState, BodyWent, BreaksAt, IsBodyOfChunks, IsBodyReader, TookWholeBody, LooksBehind, chunked, handed_of, taken_count, FilterRules, AllSent, target_of, InputFault, concat, All, Plain, BodyError, Chunked, Malformed, Place, AskError, Decoding}
 use Rattle.bodies.specs.Decode.{IsDue}
 use Rattle.bodies.specs.Filters.{Asked}
 use Rattle.bodies.specs.declared.fault.InputFault.TheVariants.{NotChunked, Truncated, Behind}
@@ -28,7 +28,7 @@ held_payload s = take s.held s.piece.items
 
 -- what each call of the filter wants
 pub record MayDecode {R W : Type 0} (s : Decoding R W) : Type 0 where
-  pub capacity : 0 < s.source.reader.block.capacity
+  pub capacity : 16384 ≤ s.source.reader.block.capacity
   pub whole : IsBodyReader (chunked s.source.coding.0) s.source
   pub target : IsPieceTarget s.target
   pub room : length s.piece.items ≡ 16384
@@ -76,6 +76,7 @@ end_answer came (Err e) taken = Err (if came then ask.IoBehind e else ask.Io e)
 
 pub record LooksOn {R : Type 0} (remaining : R → Option (List ℕ)) (s : ChunkedState R) (came : Bool)
     (answer : Result Bool (AskError InputFault)) (t : ChunkedState R) : Type 0 where
+  pub whole : IsBlock t.reader.block
   pub end : Result Bool Error
   pub looks : LooksBehind remaining std_read_rules (chunked s.coding.0) s end t
   pub equal : answer ≡ end_answer came end (taken_count t)
@@ -84,9 +85,11 @@ pub record LooksOn {R : Type 0} (remaining : R → Option (List ℕ)) (s : Chunk
 abbrev pub most_wanted : {R : Type 0} → ChunkedState R → ℕ
 most_wanted d = if nat_lt (length d.taken) (2 ^ 64 - 1) then most_between d.coding.0 d.place else 0
 
--- the body ended, and the stream behind it, which gave nothing; or what comes next is wrong, or missing, or more than the body
+-- the body ended, and the stream behind it, which gave nothing for a whole buffer; or what comes next is wrong, or missing, or
+-- more than the body
 abbrev pub PayloadEnds : {R : Type 0} → ChunkedState R → Result (Unit {0}) InputFault → ChunkedState R → Type 0
 PayloadEnds s (Ok _) t = TookWholeBody (chunked t.coding.0) t × (t.reader.block.bytes ≡ []) × RanDry s.reader t.reader
+    × (16384 ≤ t.reader.log.reads.offer)
 PayloadEnds s (Err (NotChunked why right)) t =
     BreaksAt t.coding.0 t.place t.taken t.reader.block.bytes why × (right ≡ taken_count t)
 PayloadEnds s (Err (Truncated right)) t =

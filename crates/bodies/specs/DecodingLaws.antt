@@ -43,7 +43,7 @@ module _ {R W : Type 0} (remaining : R → Option (List ℕ)) where
   ends_after : (a b c : Decoding R W) (how : Result (Unit {0}) InputFault) → NeverGaveNothing filter_rules a b
       → PayloadEnds b.source how c.source
       → PayloadEnds a.source how c.source
-  ends_after a b c (Ok _) gives end = (end.0, end.1, omega (arith, gives.zero_reads, end.2))
+  ends_after a b c (Ok _) gives end = (end.0, end.1, omega (arith, gives.zero_reads, end.2), end.3)
   ends_after a b c (Err (NotChunked why right)) gives end = end
   ends_after a b c (Err (Truncated right)) gives end = (end.0, end.1, omega (arith, gives.zero_reads, end.2), end.3)
   ends_after a b c (Err (Behind right)) gives end = end

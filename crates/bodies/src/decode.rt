@@ -19,7 +19,7 @@ use std::alloc::Global;
 ///
 /// Nothing is held back: where the reader is asked, the payload in all that it gave was sent and flushed, also before it is asked
 /// whether something follows. The writer is flushed once for each ask at most, and once more. Once the reader has given nothing
-/// it isn't called again. Both streams come back, also after a fault.
+/// it isn't called again. At an `Ok` that last ask was for 16384 bytes or more. Both streams come back, also after a fault.
 pub fn decode<R: TellRead, W: TellWrite>(
     alloc: Global,
     limits: Limits,

@@ -103,7 +103,10 @@ fn ask_behind<R: TellRead>(
 ) -> Result<bool, AskError<InputFault>>
     ensures { LooksOn R.remaining source.old came result source.new }
 {
-    match source.is_at_end() {
+    let at_end = source.is_at_end();
+    // Says that the buffer is whole.
+    let _ = source.get_ref().buffer();
+    match at_end {
         Ok(true) => Ok(false),
         Ok(false) => Err(AskError::Wrong(InputFault::Behind(source.taken()))),
         Err(e) => Err(AskError::of_fault(e, came)),

@@ -11,7 +11,7 @@ returns-in-Ok-eq0 g c =
     rw looked.equal (asked_behind g.R.TellRead.remaining c.requires.ready c.requires.lacks.0
     c.read_payload.new.self c.read_payload.new.out len c.requires.lacks.1 c.in-Ok-eq0.field-0 c.in-Ok-eq0.field-0-test
     c.in-Ok-eq0.ensures.reads c.ask_behind.new.source (nat_lt c.taken-taken.result c.taken.result)
-    (rw (c.taken-taken.ensures, c.taken.ensures) refl) looked.end looked.looks)
+    (rw (c.taken-taken.ensures, c.taken.ensures) refl) looked.end looked.looks looked.whole)
 
 pub returns-in-Ok : goal.returns-in-Ok
 returns-in-Ok g c =
