@@ -1,5 +1,5 @@
 -- What the calls of a filter of lines do, and what a whole run of `pack` comes to.
-use Rattle.std.proofs.Common.{◌≡◌, ℕ, ◌+◌, ◌≤◌, ◌<◌, List, length, true, false, Option, None, Some, Ok, Err, refl, sym, ap, subst, ◌∙◌, arith, ◌^◌, ◌⊎◌, inl, inr, [], ◌∷◌, ◌++◌, Result, append-nil, append_assoc, length-append}
+use Rattle.std.proofs.Common.{◌≡◌, ℕ, ◌+◌, ◌≤◌, ◌<◌, List, length, Bool, true, false, if◌then◌else◌, nat_lt, Option, None, Some, Ok, Err, refl, sym, ap, subst, ◌∙◌, arith, ◌^◌, ◌⊎◌, inl, inr, [], ◌∷◌, ◌++◌, Result, append-nil, append_assoc, length-append}
 use Rattle.std.proofs.lemmas.Bool.{true≢false}
 use Rattle.std.proofs.lemmas.List.Elements.{All-nil}
 use Rattle.std.specs.Prelude.{IfSome}
@@ -94,19 +94,14 @@ module _ {R W : Type 0} (remaining : R → Option (List ℕ)) {s : Packing R W} 
       (refl, subst (λ d. BeginsTooLong d.max (rest m.pieces)) (sym next.went.decoder) long.0, next.answers.2)
 
   -- a read failed
-  module _ (e : Error) (line : NextLine remaining s.source (Err (error.Io e)) m) where
-    pub asked_idle : length (rest m.pieces) ≤ length (rest s.source.pieces)
-        → FilterAsks (piece_rules remaining packing) s (Err (ask.Io e)) (after s.held)
-    asked_idle = pieces.asked_idle remaining packing ready (after s.held) lacks (kept s.held)
-        (lines_none (Err (error.Io e)) line) going lacks e (opened (Err (error.Io e)) line).0
-
-    pub asked_behind : length (rest s.source.pieces) < length (rest m.pieces)
-        → FilterAsks (piece_rules remaining packing) s (Err (ask.IoBehind e)) (after s.held)
-    asked_behind came =
-        let next = (opened (Err (error.Io e)) line).0 in
-        let fits = (open_unended s.source.pieces.decoder.max (rest m.pieces) next.answers.1).fits in
-        pieces.asked_behind remaining packing ready (after s.held) lacks (kept s.held)
-        (lines_none (Err (error.Io e)) line) going lacks e next came (omega (arith, fits))
+  pub asked_fault : (e : Error) → NextLine remaining s.source (Err (error.Io e)) m → (came : Bool)
+      → came ≡ nat_lt (length (rest s.source.pieces)) (length (rest m.pieces))
+      → FilterAsks (piece_rules remaining packing) s (Err (if came then ask.IoBehind e else ask.Io e)) (after s.held)
+  asked_fault e line =
+      let next = (opened (Err (error.Io e)) line).0 in
+      let fits = (open_unended s.source.pieces.decoder.max (rest m.pieces) next.answers.1).fits in
+      pieces.asked_fault remaining packing ready (after s.held) lacks (kept s.held)
+      (lines_none (Err (error.Io e)) line) going lacks e next (omega (arith, fits))
 
 -- lines, each with its end, are a text
 abbrev with_ends_of : (lines : List (List ℕ)) → All IsLine lines → HasLines (with_newlines lines) lines

@@ -1,5 +1,5 @@
 -- What the calls of a filter of frames do, and what a whole run of `unpack` comes to.
-use Rattle.std.proofs.Common.{◌≡◌, ℕ, ◌+◌, ◌≤◌, ◌<◌, ◌⊎◌, inl, inr, true, false, List, [], length, Option, None, Some, Ok, Err, refl, sym, ap, subst, ◌∙◌, arith, ◌++◌, Result, append-nil, append_assoc}
+use Rattle.std.proofs.Common.{◌≡◌, ℕ, ◌+◌, ◌<◌, ◌⊎◌, inl, inr, Bool, true, false, if◌then◌else◌, nat_lt, List, [], length, Option, None, Some, Ok, Err, refl, sym, ap, subst, ◌∙◌, arith, ◌++◌, Result, append-nil, append_assoc}
 use Rattle.std.proofs.lemmas.Bool.{true≢false}
 use Rattle.std.proofs.Math.Seq.{take-append_seam}
 use Rattle.std.proofs.lemmas.List.Concat.{flat_map-append}
@@ -101,17 +101,12 @@ module _ {R W : Type 0} (remaining : R → Option (List ℕ)) {s : Unpacking R W
       ))
 
   -- a read failed
-  module _ (e : Error) (next : Next remaining s.source (Err (error.Io e)) m) where
-    pub asked_idle : length (rest m) ≤ length (rest s.source)
-        → FilterAsks (piece_rules remaining unpacking) s (Err (ask.Io e)) (after s.held)
-    asked_idle = pieces.asked_idle remaining unpacking ready (after s.held) lacks (kept s.held)
-        (takes_then (Err (error.Io e)) next s.held) ready.also.told lacks e next.piece
-
-    pub asked_behind : length (rest s.source) < length (rest m)
-        → FilterAsks (piece_rules remaining unpacking) s (Err (ask.IoBehind e)) (after s.held)
-    asked_behind came = pieces.asked_behind remaining unpacking ready (after s.held) lacks (kept s.held)
-        (takes_then (Err (error.Io e)) next s.held) ready.also.told lacks e next.piece came
-        (few s.source.decoder.max (rest m) next.leaves)
+  pub asked_fault : (e : Error) → Next remaining s.source (Err (error.Io e)) m → (came : Bool)
+      → came ≡ nat_lt (length (rest s.source)) (length (rest m))
+      → FilterAsks (piece_rules remaining unpacking) s (Err (if came then ask.IoBehind e else ask.Io e)) (after s.held)
+  asked_fault e next = pieces.asked_fault remaining unpacking ready (after s.held) lacks (kept s.held)
+      (takes_then (Err (error.Io e)) next s.held) ready.also.told lacks e next.piece
+      (few s.source.decoder.max (rest m) next.leaves)
 
 -- from empty buffers on
 module _ {R W : Type 0} (remaining : R → Option (List ℕ)) (s t : Unpacking R W)

@@ -61,13 +61,7 @@ impl<R: TellRead, W: TellWrite> Filter for Packing<R, W> {
             }
             Ok(None) => Ok(false),
             Err(LineError::TooLong(_)) => Err(AskError::Wrong(InputFault::TooLong)),
-            Err(LineError::Io(e)) => {
-                if self.source.rest().len() > have {
-                    Err(AskError::IoBehind(e))
-                } else {
-                    Err(AskError::Io(e))
-                }
-            }
+            Err(LineError::Io(e)) => Err(AskError::of_fault(e, self.source.rest().len() > have)),
         }
     }
 

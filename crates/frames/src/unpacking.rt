@@ -56,13 +56,7 @@ impl<R: TellRead, W: TellWrite> Filter for Unpacking<R, W> {
             Ok(None) => Ok(false),
             Err(FrameError::TooLong(_)) => Err(AskError::Wrong(InputFault::TooLong)),
             Err(FrameError::Truncated(_)) => Err(AskError::Wrong(InputFault::Truncated)),
-            Err(FrameError::Io(e)) => {
-                if self.source.rest().len() > have {
-                    Err(AskError::IoBehind(e))
-                } else {
-                    Err(AskError::Io(e))
-                }
-            }
+            Err(FrameError::Io(e)) => Err(AskError::of_fault(e, self.source.rest().len() > have)),
         }
     }
 

@@ -1,5 +1,5 @@
 -- What the calls of a filter that answers payloads do.
-use Rattle.std.proofs.Common.{◌≡◌, ℕ, ◌≤◌, ◌<◌, inl, inr, Bool, true, false, List, [], ◌∷◌, length, Option, None, Some, Result, Ok, Err, refl, sym, ap, subst, arith, ◌∙◌}
+use Rattle.std.proofs.Common.{◌≡◌, ℕ, inl, inr, Bool, true, false, if◌then◌else◌, nat_lt, List, [], ◌∷◌, length, Option, None, Some, Result, Ok, Err, refl, sym, ap, subst, arith, ◌∙◌}
 use Rattle.std.proofs.lemmas.Bool.{true≢false}
 use Rattle.std.specs.declared.io.Error.{Error}
 use Rattle.buffer_redux.specs.BufWriter.{WasFlushed}
@@ -137,15 +137,13 @@ module _ {R D X A W N : Type 0} (remaining : R → Option (List ℕ)) (grammar :
             | inr (cut, is_open, some, met) ↦ inr (cut, is_open, some, omega (arith, MetEnd-once s.source m going met))
           ]))
 
-      module _ (e : Error) (next : Next (Err (Why.Io e))) where
-        pub asked_idle : length (rest m) ≤ length (rest s.source) → FilterAsks rules s (Err (Io e)) (asked s.held)
-        asked_idle = pieces.asked_idle remaining f ready (asked s.held) lacks (kept s.held) ready.also going lacks e next
-
-        pub asked_behind : length (rest s.source) < length (rest m) → FilterAsks rules s (Err (IoBehind e)) (asked s.held)
-        asked_behind came =
-            let shown = next.looked.shows next.answers.1 in
-            pieces.asked_behind remaining f ready (asked s.held) lacks (kept s.held) ready.also going lacks e next came
-            (omega (arith, shown.few, shown.most))
+      pub asked_fault : (e : Error) → Next (Err (Why.Io e)) → (came : Bool)
+          → came ≡ nat_lt (length (rest s.source)) (length (rest m))
+          → FilterAsks rules s (Err (if came then IoBehind e else Io e)) (asked s.held)
+      asked_fault e next =
+          let shown = next.looked.shows next.answers.1 in
+          pieces.asked_fault remaining f ready (asked s.held) lacks (kept s.held) ready.also going lacks e next
+          (omega (arith, shown.few, shown.most))
 
   -- the stream had ended
   pub asked_ended : s.held ≡ None → s.source.ended ≡ true → FilterAsks rules s (Ok false) s

@@ -1,6 +1,7 @@
 -- What the calls of a filter of pieces do.
-use Rattle.std.proofs.Common.{◌≡◌, ℕ, ◌+◌, ◌≤◌, ◌<◌, ◌⊎◌, inl, inr, Bool, true, false, List, [], ◌∷◌, ◌++◌, length, Option, None, Some, Result, Ok, Err, refl, sym, ap, subst, ◌∙◌, arith, length-drop, OnErr, OnOk}
+use Rattle.std.proofs.Common.{◌≡◌, ℕ, ◌+◌, ◌≤◌, ◌<◌, ◌⊎◌, inl, inr, Bool, true, false, if◌then◌else◌, nat_lt, List, [], ◌∷◌, ◌++◌, length, Option, None, Some, Result, Ok, Err, refl, sym, ap, subst, ◌∙◌, arith, length-drop, OnErr, OnOk}
 use Rattle.std.proofs.lemmas.Bool.{true≢false}
+use Rattle.std.proofs.lemmas.Bool.Decides.{nat_tests}
 use Rattle.std.specs.declared.io.Error.{Error}
 use Rattle.buffer_redux.specs.BufWriter.{WasFlushed, WritesInOrder}
 use Rattle.buffer_redux.specs.LogGrows.{ReadLogGrows-none}
@@ -341,13 +342,13 @@ module _ {T R D X A W E : Type 0} (remaining : R → Option (List ℕ)) (f : Pie
           grew : length (rest (f.source s)) ≤ length (rest (f.source t))
           grew = omega (arith, ap length next.answers.0, counted next)
 
-          pub asked_idle : length (rest (f.source t)) ≤ length (rest (f.source s)) → FilterAsks rules s (Err (Io e)) t
-          asked_idle idle = failed (Err (Io e)) (still_seen next.looked)
-              (λ waits fault still. (waits, fault, still, omega (arith, idle, grew, most)))
-
-          pub asked_behind : length (rest (f.source s)) < length (rest (f.source t))
-              → length (rest (f.source t)) < (grammar_of f s).most → FilterAsks rules s (Err (IoBehind e)) t
-          asked_behind longer few =
+          pub asked_fault : length (rest (f.source t)) < (grammar_of f s).most → (came : Bool)
+              → came ≡ nat_lt (length (rest (f.source s))) (length (rest (f.source t)))
+              → FilterAsks rules s (Err (if came then IoBehind e else Io e)) t
+          asked_fault few false is = failed (Err (Io e)) (still_seen next.looked)
+              (λ waits fault still. (waits, fault, still, grind (arith, nat_tests, is, grew, most)))
+          asked_fault few true is =
+              let longer : length (rest (f.source s)) < length (rest (f.source t)) = grind (arith, nat_tests, is) in
               failed (Err (IoBehind e)) (still_seen next.looked)
               (λ waits fault still. (
                 waits,

@@ -106,13 +106,7 @@ impl<R: TellRead, D: Decoder, W: TellWrite, S: Answer> Filter for Answering<R, D
             }
             Ok(None) => Ok(false),
             Err(NextError::Wrong(why)) => Err(AskError::Wrong(why)),
-            Err(NextError::Io(e)) => {
-                if self.source.rest().len() > have {
-                    Err(AskError::IoBehind(e))
-                } else {
-                    Err(AskError::Io(e))
-                }
-            }
+            Err(NextError::Io(e)) => Err(AskError::of_fault(e, self.source.rest().len() > have)),
         }
     }
 

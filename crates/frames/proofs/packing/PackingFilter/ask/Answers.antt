@@ -1,8 +1,8 @@
 -- The reader's step answers, unless its end is known; a fault came behind bytes where more is left than before.
-use Rattle.std.proofs.Common.{ap, arith, length, sym, ◌∙◌}
+use Rattle.std.proofs.Common.{length, nat_lt, refl, sym, ◌∙◌}
 use Rattle.piece_filter.specs.PiecesCalls.{asked_ended}
 use Rattle.frames.specs.Packing.{packing}
-use Rattle.frames.proofs.Packs.{asked_behind, asked_idle, asked_long, asked_more, asked_none}
+use Rattle.frames.proofs.Packs.{asked_fault, asked_long, asked_more, asked_none}
 use Rattle.frames.proofs.packing.PackingFilter.ask.Goals as goal
 
 pub returns-in-Ok-Some : goal.returns-in-Ok-Some
@@ -24,19 +24,12 @@ returns-in-Err-TooLong g c =
     (sym c.has_ended.ensures.value ∙ c.if-has_ended.false) c.step.new.self
     c.in-Err-TooLong.field-0-0 (rw c.in-Err-TooLong.field-0-is at c.in-Err-TooLong.ensures.next)
 
-pub returns-then-rest-have : goal.returns-then-rest-have
-returns-then-rest-have g c =
-    asked_behind g.R.TellRead.remaining c.requires.ready c.requires.lacks.0
+pub returns-in-Err-Io : goal.returns-in-Err-Io
+returns-in-Err-Io g c =
+    rw c.of_fault.ensures (asked_fault g.R.TellRead.remaining c.requires.ready c.requires.lacks.0
     (sym c.has_ended.ensures.value ∙ c.if-has_ended.false) c.step.new.self c.in-Err-Io.e
-    (rw c.in-Err-Io.field-0-is at c.in-Err-Io.ensures.next)
-    (omega (arith, c.if-rest-have.true, ap length c.rest.ensures.value, ap length c.rest-have.ensures.value))
-
-pub returns-else-rest-have : goal.returns-else-rest-have
-returns-else-rest-have g c =
-    asked_idle g.R.TellRead.remaining c.requires.ready c.requires.lacks.0
-    (sym c.has_ended.ensures.value ∙ c.if-has_ended.false) c.step.new.self c.in-Err-Io.e
-    (rw c.in-Err-Io.field-0-is at c.in-Err-Io.ensures.next)
-    (omega (arith, c.if-rest-have.false, ap length c.rest.ensures.value, ap length c.rest-have.ensures.value))
+    (rw c.in-Err-Io.field-0-is at c.in-Err-Io.ensures.next) (nat_lt (length c.rest-have.result.now) (length c.rest.result.now))
+    (rw (c.rest-have.ensures.value, c.rest.ensures.value) refl))
 
 pub returns-then-has_ended : goal.returns-then-has_ended
 returns-then-has_ended g c =

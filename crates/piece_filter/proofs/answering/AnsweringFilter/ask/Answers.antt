@@ -1,8 +1,8 @@
 -- The reader's step answers, unless its end is known; a fault came behind bytes where more is left than before.
-use Rattle.std.proofs.Common.{IfSome, Ok, ap, arith, length, subst, sym, ◌∙◌}
+use Rattle.std.proofs.Common.{IfSome, Ok, length, nat_lt, refl, subst, sym, ◌∙◌}
 use Rattle.piece_reader.specs.Decoding.{IsLent}
 use Rattle.piece_reader.specs.NextPiece.{NextPiece, load_answer}
-use Rattle.piece_filter.proofs.Calls.{asked_behind, asked_ended, asked_idle, asked_more, asked_none, asked_wrong}
+use Rattle.piece_filter.proofs.Calls.{asked_ended, asked_fault, asked_more, asked_none, asked_wrong}
 use Rattle.piece_filter.proofs.answering.AnsweringFilter.ask.Goals as goal
 
 pub returns-then-has_ended : goal.returns-then-has_ended
@@ -36,16 +36,9 @@ returns-in-Err-Wrong g c =
     (sym c.has_ended.ensures.value ∙ c.if-has_ended.false) c.in-Err-Wrong.why
     (rw c.in-Err-Wrong.field-0-is at c.in-Err-Wrong.ensures.next)
 
-pub returns-then-rest-have : goal.returns-then-rest-have
-returns-then-rest-have g c =
-    asked_behind g.R.TellRead.remaining g.D.Decoder.grammar g.S.Answer.answers c.requires.ready c.requires.lacks.0 c.step.new.self
-    (sym c.has_ended.ensures.value ∙ c.if-has_ended.false) c.in-Err-Io.e
-    (rw c.in-Err-Io.field-0-is at c.in-Err-Io.ensures.next)
-    (omega (arith, c.if-rest-have.true, ap length c.rest.ensures.value, ap length c.rest-have.ensures.value))
-
-pub returns-else-rest-have : goal.returns-else-rest-have
-returns-else-rest-have g c =
-    asked_idle g.R.TellRead.remaining g.D.Decoder.grammar g.S.Answer.answers c.requires.ready c.requires.lacks.0 c.step.new.self
-    (sym c.has_ended.ensures.value ∙ c.if-has_ended.false) c.in-Err-Io.e
-    (rw c.in-Err-Io.field-0-is at c.in-Err-Io.ensures.next)
-    (omega (arith, c.if-rest-have.false, ap length c.rest.ensures.value, ap length c.rest-have.ensures.value))
+pub returns-in-Err-Io : goal.returns-in-Err-Io
+returns-in-Err-Io g c =
+    rw c.of_fault.ensures (asked_fault g.R.TellRead.remaining g.D.Decoder.grammar g.S.Answer.answers c.requires.ready
+    c.requires.lacks.0 c.step.new.self (sym c.has_ended.ensures.value ∙ c.if-has_ended.false) c.in-Err-Io.e
+    (rw c.in-Err-Io.field-0-is at c.in-Err-Io.ensures.next) (nat_lt (length c.rest-have.result.now) (length c.rest.result.now))
+    (rw (c.rest-have.ensures.value, c.rest.ensures.value) refl))
