@@ -38,11 +38,11 @@ pub enum Cause<W> {
     Read(io::Error),
     /// The stream that is written to failed, or a filter had no room for a payload.
     Write(io::Error),
-    /// As many payloads went over as a `u64` counts.
+    /// As many payloads were passed on or dropped as a `u64` counts.
     Count,
 }
 
-/// Why payloads are forwarded no further, and how many went over before.
+/// Why payloads are forwarded no further, and how many were passed on or dropped before.
 #[derive(Debug, Drop)]
 pub struct Stopped<W> {
     pub count: u64,

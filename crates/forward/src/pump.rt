@@ -9,12 +9,13 @@ use crate::link::Link;
 use redux_buffer::INTERRUPT_LIMIT;
 use std::io::ErrorKind;
 
-/// Forwards each payload, in order, until the stream that is read from ends, and returns how many those were.
+/// Forwards each payload, in order, until the stream that is read from ends, and returns how many those were, also those that
+/// the filter dropped.
 ///
 /// Nothing is held back: before the stream is asked, all that was taken in is sent and flushed. An ask that was interrupted is
 /// made again, 64 times in a row, which begins anew where bytes came in one; for all of these the writer is flushed once at
-/// most. A flush that is interrupted isn't made again: this ends by `Cause::Write`. An `Err` says which side stopped,
-/// and why, and how many payloads went over: where what came was wrong, or a read failed, all of these were sent and flushed.
+/// most. A flush that is interrupted isn't made again: this ends by `Cause::Write`. An `Err` says which side stopped, and why,
+/// and how many payloads were passed on or dropped: where what came was wrong, or a read failed, all that is due was flushed.
 /// Behind a read that failed this may be called again, and goes on with what is buffered.
 ///
 /// By a filter of `piece_filter`, with an `Answer` of `uses`:
