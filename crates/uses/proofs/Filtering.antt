@@ -32,15 +32,16 @@ AllGoOn-more word (l ∷ lines) line out first (front, rest, is, all, same) goes
 )
 
 -- a line that is written, and sent, flushes nothing
-module _ {S P : Type 0} (tells : S → StreamLog) (trace : S → S → Type 0) (rules : WriteRules P) (answer : Result (Unit {0}) Error)
-    (t : Buffered S P) where
+module _ {S P : Type 0} (tells : S → StreamLog) (trace : S → S → Type 0) (rules : WriteRules P)
+    (answer : Result (Unit {0}) Error) (t : Buffered S P) where
   sent_unflushed : (m : Buffered S P) → SendsLines tells trace m answer t → t.log.writes.flushes ≡ m.log.writes.flushes
   sent_unflushed m sends = elim (lacks_or m.block.bytes) [
     | inl none ↦ ap (λ x. x.log.writes.flushes) (sends.none none).1
     | inr some ↦ (sends.some some).sends.sent.flushes
   ]
 
-  pub line_unflushed : (line : List ℕ) (s : Buffered S P) → ThenSendsLines tells trace (WritesAll tells trace rules s line) answer t
+  pub line_unflushed : (line : List ℕ) (s : Buffered S P)
+      → ThenSendsLines tells trace (WritesAll tells trace rules s line) answer t
       → t.log.writes.flushes ≡ s.log.writes.flushes
   line_unflushed line s l = of l.writing l.ended ∙ l.wrote.front.keeps.flushes
     where
