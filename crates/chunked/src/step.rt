@@ -1,7 +1,5 @@
 //! How a reader goes on in a body, from byte to byte of what is no payload.
-ghost use Rattle.std.specs.Prelude.{◌≡◌, ◌≢◌, ◌^◌, ◌<◌, ◌≤◌, ◌↔◌, length, take, Ok, IfOk, IfErr, IsTrue};
-ghost use Rattle.std.specs.Char.{digit_value};
-ghost use Rattle.std.specs.Option.{SomeIff};
+ghost use Rattle.std.specs.Prelude.{◌≡◌, ◌≢◌, ◌^◌, ◌<◌, ◌↔◌, Ok, IfOk, IfErr, IsTrue};
 ghost use Rattle.chunked.specs.Place.{IsDataOrDone, IsPlace};
 ghost use Rattle.chunked.specs.Steps.{Advances, StepsOver};
 

@@ -1,4 +1,3 @@
 pub mod Asking
 pub mod Inside
-mod Rest
 pub mod Spans

@@ -1,11 +1,11 @@
 -- Why a text whose lines end as those of a head is none.
-use Rattle.std.specs.Prelude.{◌≡◌, ◌⊎◌, ℕ, ◌+◌, ◌≤◌, ◌==◌, ◌&&◌, ◌||◌, not, nat_lt, if◌then◌else◌, Bool, true, false, List, [], count_by, length, Result, Ok, Err}
+use Rattle.std.specs.Prelude.{◌≡◌, ◌⊎◌, ℕ, ◌+◌, ◌≤◌, ◌==◌, ◌&&◌, ◌||◌, not, nat_lt, if◌then◌else◌, Bool, true, false, List, [], count_by, length, Result, Ok}
 use Rattle.http1.specs.declared.fields.KnownFields.{KnownFields}
 use Rattle.http1.specs.declared.framing.Framing.{Framing}
-use Rattle.http1.specs.declared.framing.Framing.TheVariants.{NoBody, Length, Chunked, UntilClose}
+use Rattle.http1.specs.declared.framing.Framing.TheVariants.{Chunked}
 use Rattle.http1.specs.declared.framing.FramingError.{FramingError}
 use Rattle.http1.specs.declared.framing.MethodKind.{MethodKind}
-use Rattle.http1.specs.declared.framing.MethodKind.TheVariants.{Head, Connect, Other}
+use Rattle.http1.specs.declared.framing.MethodKind.TheVariants.{Connect}
 use Rattle.http1.specs.Framing.{method_kind, request_framing}
 use Rattle.http1.specs.Message.{has_one_host, known_of}
 use Rattle.httparse.specs.Grammar.{ReadsRequest, RequestHead}
@@ -29,15 +29,11 @@ text_fault limits bytes = lines_fault limits (behind_blank bytes)
 
 abbrev pub is_connect : MethodKind → Bool
 is_connect Connect = true
-is_connect Head = false
-is_connect Other = false
+is_connect _ = false
 
 abbrev pub ends_chunked : Result Framing FramingError → Bool
 ends_chunked (Ok Chunked) = true
-ends_chunked (Ok NoBody) = false
-ends_chunked (Ok (Length len)) = false
-ends_chunked (Ok UntilClose) = false
-ends_chunked (Err e) = false
+ends_chunked _ = false
 
 -- for whom it is doesn't show plainly, or where its body ends
 abbrev pub is_doubtful : ℕ → KnownFields → Bool

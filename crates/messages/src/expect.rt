@@ -1,5 +1,5 @@
 //! What is expected of a server (RFC 9110, section 10.1.1).
-ghost use Rattle.std.specs.Prelude.{◌≡◌, ◌↔◌, length, map, reverse, All, IsTrue};
+ghost use Rattle.std.specs.Prelude.{◌≡◌, length, reverse};
 ghost use Rattle.std.specs.List.{list_all};
 ghost use Rattle.http1.specs.Fields.{elements};
 ghost use Rattle.httparse.specs.Grammar.{skip_ows, trim_ows};
@@ -58,23 +58,10 @@ fn are_expected(value: &[u8]) -> bool
     is_expected(trim_ows(rest))
 }
 
-// Whether this field is no `Expect`, or one of just `100-continue`, or of nothing.
-fn is_met(head: &[u8], span: &HeaderSpan) -> bool
+/// Whether this field is no `Expect`, or one of just `100-continue`, or of nothing.
+pub(crate) fn is_met(head: &[u8], span: &HeaderSpan) -> bool
     requires { IsHeaderWithin (length head.now) span.now }
     ensures { result ≡ is_met (header_bytes head.now span.now) }
 {
     !eq_ignore_case(span.name.of(head), b"expect") || are_expected(span.value.of(head))
-}
-
-/// Whether each `Expect` among these fields is one of just `100-continue`.
-pub(crate) fn are_met(head: &[u8], spans: &[HeaderSpan]) -> bool
-    requires { All (IsHeaderWithin (length head.now)) spans.now }
-    ensures { IsTrue result ↔ All (λ h. IsTrue (is_met h)) (map (header_bytes head.now) spans.now) }
-{
-    for span in spans {
-        if !is_met(head, span) {
-            return false;
-        }
-    }
-    true
 }

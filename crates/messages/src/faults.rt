@@ -1,13 +1,13 @@
 //! Why a text whose lines end as those of a head is none.
 ghost use Rattle.std.specs.Prelude.{◌≡◌};
-ghost use Rattle.messages.specs.Faults.{ends_chunked, has_many_lines, lines_fault, said_fault, text_fault};
+ghost use Rattle.messages.specs.Faults.{has_many_lines, lines_fault, said_fault, text_fault};
 
 use crate::bad_head::BadHead;
 use crate::head::has_one_host;
 use crate::limits::{Limits, fields_of};
 use crate::version::{blank_len, first_len, has_other_version};
 use http1::fields::KnownFields;
-use http1::framing::{Framing, FramingError, MethodKind, request_framing};
+use http1::framing::{Framing, MethodKind, request_framing};
 
 /// What is wrong with a head that says this, if it isn't plain.
 pub(crate) fn said_fault(method: MethodKind, minor: u8, known: &KnownFields) -> BadHead
@@ -19,19 +19,10 @@ pub(crate) fn said_fault(method: MethodKind, minor: u8, known: &KnownFields) -> 
     if matches!(method, MethodKind::Connect) {
         return BadHead::Tunnel;
     }
-    if known.other_coding && ends_chunked(request_framing(method, minor, known)) {
+    if known.other_coding && matches!(request_framing(method, minor, known), Ok(Framing::Chunked)) {
         BadHead::Coding
     } else {
         BadHead::Refused
-    }
-}
-
-fn ends_chunked(framing: Result<Framing, FramingError>) -> bool
-    ensures { result ≡ ends_chunked framing }
-{
-    match framing {
-        Ok(Framing::Chunked) => true,
-        Ok(Framing::NoBody | Framing::Length(_) | Framing::UntilClose) | Err(_) => false,
     }
 }
 

@@ -1,5 +1,5 @@
 //! Heads of requests as pieces, and what they say of the body.
-ghost use Rattle.std.specs.Prelude.{◌≡◌, ◌<◌, ◌≤◌, ◌↔◌, All, IfErr, IfNone, IfOk, IfSome, IsTrue, OnErr, Some, length, map, slice_set};
+ghost use Rattle.std.specs.Prelude.{ℕ, List, ◌≡◌, ◌<◌, ◌≤◌, ◌↔◌, All, IfErr, IfNone, IfOk, IfSome, IsTrue, OnErr, Some, length, map, slice_set};
 ghost use Rattle.http1.specs.Framing.{method_kind};
 ghost use Rattle.http1.specs.Message.{has_one_host};
 ghost use Rattle.httparse.specs.Spans.{IsHeaderWithin, header_bytes};
@@ -7,14 +7,15 @@ ghost use Rattle.messages.specs.declared.head.Extent.{Extent};
 ghost use Rattle.messages.specs.declared.head.ParsedHead.{ParsedHead};
 ghost use Rattle.messages.specs.Faults.{IsHeadFault};
 ghost use Rattle.messages.specs.Limits.{usual};
-ghost use Rattle.messages.specs.Heads.{IsHead, IsKnownHead, IsRefused, SaysPlainly, expects, extent_of, keeps};
+ghost use Rattle.messages.specs.Heads.{IsHead, IsKnownHead, IsRefused, SaysPlainly, expects, extent_of, is_met, keeps};
+ghost use Rattle.messages.specs.Target.{IsPlainField};
 
 use crate::bad_head::BadHead;
-use crate::expect::are_met;
+use crate::expect::is_met;
 use crate::faults::{said_fault, text_fault};
 use crate::limits::{Limits, fields_of};
 use crate::lines::{Before, Lines, line_fault};
-use crate::target::{are_hosts_plain, is_target};
+use crate::target::{is_plain, is_target};
 use crate::version::later_at;
 use codec::{ByHeader, ByScan, Decoder, End, Found, ScanNote, Span};
 use http1::fields::KnownFields;
@@ -173,43 +174,57 @@ fn read_known(head: &[u8], limits: Limits) -> Result<ParsedHead, BadHead>
     let name = spans.method.of(head);
     let target = spans.path.of(head);
     let method = MethodKind::of(name);
-    match plain_extent(head, found, method, name, target, spans.version, &known) {
+    let (hosts, met) = look_at_fields(head, found);
+    match plain_extent(hosts, method, name, target, spans.version, &known) {
         Some(extent) => Ok(ParsedHead {
             extent,
             bare: is_bare(method),
             keeps: keeps(spans.version, &known),
             expects: expects(spans.version, &known),
-            met: are_met(head, found),
+            met,
         }),
         None => Err(said_fault(method, spans.version, &known)),
     }
 }
 
-// Where the body ends, if that, and for whom the request is, is said plainly.
+// Whether each `Host` among these fields names a host or is empty, and each `Expect` is one of just `100-continue`.
+fn look_at_fields(head: &[u8], spans: &[HeaderSpan]) -> (bool, bool)
+    requires { All (IsHeaderWithin (length head.now)) spans.now }
+    ensures hosts { IsTrue result.0 ↔ All IsPlainField (map (header_bytes head.now) spans.now) }
+    ensures met { IsTrue result.1 ↔ All (λ h. IsTrue (is_met h)) (map (header_bytes head.now) spans.now) }
+{
+    let mut hosts = true;
+    let mut met = true;
+    for span in spans {
+        hosts &= is_plain(head, span);
+        met &= is_met(head, span);
+    }
+    (hosts, met)
+}
+
+// Where the body ends, if that, and for whom the request is, is said plainly, where this says whether each `Host` is plain.
 fn plain_extent(
-    head: &[u8],
-    fields: &[HeaderSpan],
+    hosts: bool,
     method: MethodKind,
     name: &[u8],
     target: &[u8],
     minor: u8,
     known: &KnownFields,
 ) -> Option<Extent>
-    requires within { All (IsHeaderWithin (length head.now)) fields.now }
-    requires method { method ≡ method_kind name.now }
-    ensures { (extent : Extent) → ((result ≡ Some extent)
-        ↔ SaysPlainly name.now target.now minor (map (header_bytes head.now) fields.now) known.now extent) }
+    requires { method ≡ method_kind name.now }
+    ensures { (fields : List (List ℕ × List ℕ)) (extent : Extent) → (IsTrue hosts ↔ All IsPlainField fields)
+        → ((result ≡ Some extent) ↔ SaysPlainly name.now target.now minor fields known.now extent) }
 {
     if known.framing_fields > 1 || !has_one_host(minor, known) {
         return None;
     }
-    if is_connect(method) {
+    if matches!(method, MethodKind::Connect) {
         return None;
     }
     if known.other_coding {
         return None;
     }
-    if !are_hosts_plain(head, fields) {
+    if !hosts {
         return None;
     }
     if !is_target(name, target) {
@@ -234,12 +249,6 @@ pub(crate) fn has_one_host(minor: u8, known: &KnownFields) -> bool
     ensures { result ≡ has_one_host minor known.now }
 {
     known.hosts == 1 || known.hosts == 0 && minor == 0
-}
-
-fn is_connect(method: MethodKind) -> bool
-    ensures { IsTrue result ↔ (method ≡ MethodKind.Connect) }
-{
-    matches!(method, MethodKind::Connect)
 }
 
 fn is_bare(method: MethodKind) -> bool

@@ -1,5 +1,5 @@
 //! What names the resource that is asked for: a target, and a `Host`.
-ghost use Rattle.std.specs.Prelude.{◌≡◌, ◌<◌, ◌≤◌, ◌↔◌, not, ◌==◌, ◌||◌, length, map, All, IsTrue};
+ghost use Rattle.std.specs.Prelude.{◌≡◌, ◌<◌, ◌≤◌, ◌↔◌, not, ◌==◌, ◌||◌, length, IsTrue};
 ghost use Rattle.httparse.specs.Spans.{IsHeaderWithin, header_bytes};
 ghost use Rattle.std.specs.List.{list_all, prefix_len};
 ghost use Rattle.std.specs.Char.{is_ascii_digit, is_ascii_hexdigit};
@@ -183,25 +183,12 @@ fn is_host(text: &[u8]) -> bool
     has_whole_escapes(text) && is_host_and_port(text)
 }
 
-// Whether this field is no `Host`, or names a host or is empty.
-fn is_plain(head: &[u8], span: &HeaderSpan) -> bool
+/// Whether this field is no `Host`, or names a host or is empty.
+pub(crate) fn is_plain(head: &[u8], span: &HeaderSpan) -> bool
     requires { IsHeaderWithin (length head.now) span.now }
     ensures { IsTrue result ↔ IsPlainField (header_bytes head.now span.now) }
 {
     !eq_ignore_case(span.name.of(head), b"host") || is_host(span.value.of(head))
-}
-
-/// Whether each `Host` among these fields names a host, or is empty.
-pub(crate) fn are_hosts_plain(head: &[u8], spans: &[HeaderSpan]) -> bool
-    requires { All (IsHeaderWithin (length head.now)) spans.now }
-    ensures { IsTrue result ↔ All IsPlainField (map (header_bytes head.now) spans.now) }
-{
-    for span in spans {
-        if !is_plain(head, span) {
-            return false;
-        }
-    }
-    true
 }
 
 fn is_path(text: &[u8]) -> bool

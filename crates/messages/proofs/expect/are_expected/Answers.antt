@@ -4,7 +4,7 @@ use Rattle.std.specs.List.{list_all}
 use Rattle.std.proofs.Math.Bool.{and-true}
 use Rattle.http1.proofs.FieldsLemmas.{elements_at, elements_whole}
 use Rattle.messages.specs.Names.{elements, is_expected}
-use Rattle.messages.proofs.Rest.{take-drop}
+use Rattle.std.proofs.lemmas.List.{take_rest}
 use Rattle.messages.proofs.expect.are_expected.Goals.{After-is_expected}
 use Rattle.messages.proofs.expect.are_expected.Goals as goal
 
@@ -26,7 +26,7 @@ returns-then-not-is_expected c =
 pub loop-comma-preserved : goal.loop-comma-preserved
 loop-comma-preserved c =
     let split = first (goal.at.loop-comma-preserved c).After-is_expected in
-    ap (λ l. list_all is_expected (elements l)) (take-drop (c.in-Some.comma + 1) c.loop-comma.rest.now)
+    ap (λ l. list_all is_expected (elements l)) (take_rest c.loop-comma.rest.now (c.in-Some.comma + 1))
     ∙ sym (rw c.if-not-is_expected.false at split) ∙ c.loop-comma.invariant
 
 pub returns : goal.returns

@@ -49,7 +49,8 @@ found c =
       at.version,
       known,
       at.fields,
-      rw (← method, ← target, ← at.version, ← known, ← at.fields) c.plain_extent.ensures,
+      λ extent. rw (← method, ← target, ← at.version, ← known, ← at.fields)
+          (c.plain_extent.ensures _ extent c.look_at_fields-hosts.ensures.hosts),
     )
 
 pub returns-in-None : goal.returns-in-None
@@ -75,5 +76,5 @@ returns-in-Some-clause-head c =
       bare = rw kind at c.is_bare.ensures;
       keeps = c.keeps.ensures ∙ cc (minor, known);
       expects = c.expects.ensures ∙ cc (minor, known);
-      met = rw fields at c.are_met.ensures;
+      met = rw fields at c.look_at_fields-hosts.ensures.met;
     }

@@ -2,7 +2,7 @@
 use Rattle.std.proofs.Common.{◌+◌, ◌∙◌, IsTrue, codes, drop, nat_eq, rules, sym}
 use Rattle.messages.specs.Names.{begins_with_letter, false≢true}
 use Rattle.std.specs.List.{starts_with}
-use Rattle.messages.proofs.Rest.{take-drop}
+use Rattle.std.proofs.lemmas.List.{take_rest}
 use Rattle.messages.proofs.target.is_absolute.Goals.{then-begins_with_letter, else-begins_with_letter}
 use Rattle.messages.proofs.target.is_absolute.Goals as goal
 
@@ -19,5 +19,5 @@ returns-then-starts_with c =
       | else-begins_with_letter w ↦ absurd (false≢true (sym w.if-begins_with_letter.false ∙ sym w.value-is
           ∙ c.if-starts_with.true))
     ] in
-    let rest = rw (take-drop (len + 3) text, c.is_web.ensures) at c.is_behind_scheme.ensures in
+    let rest = rw (take_rest text (len + 3), c.is_web.ensures) at c.is_behind_scheme.ensures in
     rw (← c.scheme_len-len.ensures.value) (λ yes. (begins.0, begins.1, rest.0 yes), λ is. rest.1 is.2)
