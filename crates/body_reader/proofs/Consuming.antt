@@ -21,9 +21,6 @@ module _ {S Q C P W : Type 0} (remaining : S → Option (List ℕ)) (rules : Rea
   given : calls'.reads.given ≡ calls.reads.given ++ take n r.block.bytes
   given = grind (arith, length-take-le, take-length)
 
-  consumed_is : IsBodyReader g (seen r' c q calls' k')
-  consumed_is = state_is front.takes given is front.known
-
   pub consumes : (count : ℕ) → 0 < n → n ≡ min count k
       → ConsumesPayload remaining rules g count (seen r c p calls k) (seen r' c q calls' k')
   consumes count some all = record {
@@ -37,7 +34,7 @@ module _ {S Q C P W : Type 0} (remaining : S → Option (List ℕ)) (rules : Rea
       (λ _. subst (λ j. calls' ≡ after_read calls (take j r.block.bytes) (Ok j)) all noted),
       (λ none. absurd (omega (arith, none, all, some))),
     );
-    whole = consumed_is;
+    whole = state_is front.takes given is front.known;
   }
 
 module _ {S Q C P W : Type 0} (remaining : S → Option (List ℕ)) (rules : ReadRules Q) where

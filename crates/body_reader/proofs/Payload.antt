@@ -14,11 +14,6 @@ use Rattle.body_reader.specs.BetweenLaws.{AsksWithRoom-open, EachGave-none, Pass
 use Rattle.body_reader.specs.Coding.{Grammar, IsDone, IsKnown, IsLawful, IsOpen}
 use Rattle.body_reader.specs.CodingLaws.{Leads-done, Leads-left, Leads-then, Leads-whole}
 
--- the payload that a call handed out is noted
-given_after : {W : Type 0} (calls : StreamLog) (out : List ℕ) (answer : Result ℕ (BodyError W)) (later : StreamLog)
-    → NotedIfOk calls out answer later → later.reads.given ≡ calls.reads.given ++ handed_out out answer
-given_after calls out answer later noted = grind (arith, append-nil)
-
 -- in a place where a body ended none is known
 none_there : {P W : Type 0} (g : Grammar P W) (j : ℕ) (x : P) (bytes : List ℕ) → IsKnown g x j bytes → IsDone g x → j ≡ 0
 none_there j x bytes known done = grind arith
@@ -87,7 +82,7 @@ module _ {S Q C P W : Type 0} (remaining : S → Option (List ℕ)) (rules : Rea
   after = seen r' c q calls' k'
 
   given : calls'.reads.given ≡ calls.reads.given ++ handed_out out answer
-  given = given_after calls out answer calls' noted
+  given = grind (arith, append-nil)
 
   still : IsBodyReader g after
   still = state_is hands.0.0.takes given is known
@@ -112,9 +107,6 @@ module _ {S Q C P W : Type 0} (remaining : S → Option (List ℕ)) (rules : Rea
   knows_told (Ok n) ends none = ends.1.3 none
   knows_told (Err e) ends none = tt
 
-  full_handed : (a : Result ℕ (BodyError W)) → Ends a → IfOk a (λ n. (n ≡ length out) ⊎ (k' ≡ 0))
-  full_handed a ends = grind arith
-
   idle : (TookWholeBody g (seen r c p calls k) ⊎ (length out ≡ 0))
       → after ≡ record (seen r c p calls k) { calls = calls' }
   idle either = grind (arith, Leads-done, none_there)
@@ -126,7 +118,7 @@ module _ {S Q C P W : Type 0} (remaining : S → Option (List ℕ)) (rules : Rea
     answers = answered answer hands.0.1;
     asked = hands.0.0.asked;
     through = grind arith;
-    full = full_handed answer hands.0.1;
+    full = grind arith;
     left = left;
     knows = knows_told answer hands.0.1;
     consumed = consumed;

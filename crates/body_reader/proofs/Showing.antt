@@ -31,9 +31,6 @@ pub rest_kept : (was out rest : List ℕ) (handed n : ℕ) → handed ≤ length
 rest_kept was out rest handed n within is same =
     grind (arith, put_rest, length-take-le, within, drop-append-add, take_all, length-drop, drop-drop)
 
-zero_unless : (n : ℕ) → ¬ (0 < n) → n ≡ 0
-zero_unless n none = grind arith
-
 module _ {S Q P W : Type 0} (remaining : S → Option (List ℕ)) (rules : ReadRules Q) (g : Grammar P W) where
   -- some is known
   pub known_found : (s : Buffered S Q) (p : Progress P) (k : ℕ) → g.is_place p.place → IsKnown g p.place k s.block.bytes → 0 < k
@@ -183,7 +180,7 @@ module _ {S Q P W : Type 0} (remaining : S → Option (List ℕ)) (rules : ReadR
 
       -- a further one only where none stayed known
       last : 0 < handed → k ≡ 0
-      last some = zero_unless k (λ known. omega (arith, some, so.first room known))
+      last some = let none = so.first room in grind (arith, none)
 
       more : (n : ℕ) (rest : List ℕ) (t : Buffered S Q) (u : Progress P) (k'' : ℕ) → 0 < n → n ≡ min k' (length rest)
           → take n rest ≡ take n f.block.bytes → TakesFront remaining rules g n f r k' t u k''

@@ -12,7 +12,7 @@ use Rattle.body_reader.specs.declared.coding.Look.{Look}
 use Rattle.body_reader.specs.declared.coding.Look.TheVariants as look
 use Rattle.body_reader.specs.declared.error.BodyError.TheVariants.{Wrong, Truncated, Io}
 use Rattle.body_reader.specs.declared.progress.Progress.{Progress}
-use Rattle.body_reader.specs.Between.{EachGave, KeepsBuffer, PassesTo, PassesOn, SkipsOn, TakenThrough, TakesBytes, Way}
+use Rattle.body_reader.specs.Between.{EachGave, PassesTo, PassesOn, SkipsOn, TakenThrough, TakesBytes, Way}
 use Rattle.body_reader.specs.BetweenLaws.{AsksWithRoom-here, EachGave-joins, EachGave-none, EachGave-same, FaultedOnce-after, GaveNothingOnce-after, PassesTo-joins, PassesTo-none, PassesTo-once, PassesOn-way, ReadsAhead-asks, ReadsAhead-ended, ReadsAhead-failed, ReadsAhead-gave, ReadsAhead-keeps, ReadsAhead-open, TakesBytes-joins, TakesBytes-none, TakesBytes-still, TellsOnce-none, Way-joins, Way-none}
 use Rattle.body_reader.specs.Coding.{Grammar, IsDone, IsOpenBelow, Leads, Looks, heeded}
 use Rattle.body_reader.specs.CodingLaws.{IsOpen-goes_on, IsOpenBelow-open}
@@ -26,10 +26,6 @@ pub record Notes {P : Type 0} (p : Progress P) (there : P) (bytes : List ℕ) (q
 pub consumes_left : {S Q : Type 0} (rules : ReadRules Q) (n : ℕ) (s t : Buffered S Q) → n ≤ length s.block.bytes
     → ReaderConsumes rules n s t → t.block.bytes ≡ drop n s.block.bytes
 consumes_left rules n s t held gone = grind arith
-
-pub consumes_keeps : {S Q : Type 0} (remaining : S → Option (List ℕ)) (rules : ReadRules Q) (least n : ℕ) (s t : Buffered S Q)
-    → ReaderConsumes rules n s t → ReaderKeeps remaining rules s t → KeepsBuffer rules least s t
-consumes_keeps remaining rules least n s t gone keeps = grind (arith, of_plain)
 
 pub consumes_parts : {S Q : Type 0} (rules : ReadRules Q) (n : ℕ) (s t : Buffered S Q) → n ≤ length s.block.bytes
     → ReaderConsumes rules n s t → take n s.block.bytes ++ t.block.bytes ≡ s.block.bytes
@@ -54,7 +50,7 @@ module _ {S Q P W : Type 0} (remaining : S → Option (List ℕ)) (rules : ReadR
         (subst (λ x. Leads g p.place (take n s.block.bytes) handed x (heeded g (drop n s.block.bytes))) (sym notes.place) leads);
     taken = notes.taken;
     place = subst g.is_place (sym notes.place) place;
-    keeps = consumes_keeps remaining rules g.ahead n s t gone keeps;
+    keeps = grind (arith, of_plain);
   }
 
 -- so far bytes were taken which are no payload, and each read gave some
