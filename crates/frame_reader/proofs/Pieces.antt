@@ -1,22 +1,28 @@
 -- What a call of a reader of pieces leaves, in the words of frames.
-use Rattle.std.proofs.Common.{◌≡◌, ℕ, ◌+◌, ◌<◌, ◌≤◌, ◌⊎◌, List, [], ◌∷◌, ◌++◌, append-nil, length, take, sym, ap, subst, ◌∙◌, arith, inl, inr, refl, Option, None, Ok, Err, Some, IfSome, drop, length-drop, length-take-le}
+use Rattle.std.proofs.Common.{◌≡◌, ℕ, ◌+◌, ◌<◌, ◌≤◌, ◌⊎◌, List, [], ◌∷◌, ◌++◌, append-nil, false, length, length-append, take, sym, ap, subst, ◌∙◌, arith, inl, inr, refl, Option, None, Ok, Err, Some, IfSome, drop, length-drop, length-take-le}
 use Rattle.std.proofs.lemmas.Bool.{cases_lt}
 use Rattle.std.specs.Int.{w16, from_be_bytes}
+use Rattle.buffer_redux.specs.Asking.{AskedWhere}
+use Rattle.buffer_redux.specs.AskingLaws.{AskedWhere-of}
+use Rattle.codec.specs.declared.Found.{Found}
 use Rattle.codec.specs.declared.Span.{Span}
-use Rattle.codec.specs.Decoding.{IsLent}
+use Rattle.codec.specs.Decoding.{IsLent, OnMore}
 use Rattle.codec.specs.Grammar.{IsOpen}
 use Rattle.codec.specs.GrammarLaws.{begins_of}
-use Rattle.codec.specs.NextPiece.{NextAnswers, NextBuffered, NextPiece}
+use Rattle.codec.specs.Looking.{LookSays, LooksFromLast}
+use Rattle.codec.specs.LookingLaws.{LooksFromLast-asked, WasAskedFor}
+use Rattle.codec.specs.NextPiece.{NextAnswer, NextAnswers, NextBuffered, NextPiece}
 use Rattle.codec.specs.NextPieceLaws.{fronts_agree}
 use Rattle.codec.specs.PiecesWentLaws.{PiecesWent-unasked}
-use Rattle.codec.specs.PieceReader.{ReaderState, rest}
+use Rattle.codec.specs.PieceReader.{ReaderState, left_of, rest}
 use Rattle.frame_reader.specs.declared.error.FrameError.{FrameError}
 use Rattle.frame_reader.specs.declared.error.FrameError.TheVariants.{Truncated, TooLong, Io}
+use Rattle.frame_reader.specs.declared.frame.FrameFault.{FrameFault}
 use Rattle.frame_reader.specs.declared.frame.FrameFault.TheVariants as Fault
 use Rattle.frame_reader.specs.declared.frame.Frames.{Frames}
 use Rattle.frame_reader.specs.Framed.{framed}
-use Rattle.frame_reader.specs.FramedLaws.{frame_there}
-use Rattle.frame_reader.specs.Frames.{AreBytes, BeginsWith, IsCutShort, frame, frames}
+use Rattle.frame_reader.specs.FramedLaws.{frame_there, framed_lawful}
+use Rattle.frame_reader.specs.Frames.{AreBytes, AsksFrame, BeginsWith, IsCutShort, OffersFrame, frame, frames, header}
 use Rattle.frame_reader.specs.Next.{ErrorLeaves, Next, piece_error}
 use Rattle.frame_reader.specs.NextLaws.{NextBuffered-frames, Next-went}
 use Rattle.frame_reader.proofs.Lengths.{BeginsWith-first}
@@ -48,7 +54,55 @@ some_cut : (max : ℕ) (bytes : List ℕ) → 0 < length bytes → (bytes ≡ []
 some_cut max bytes some (inl none) = absurd (omega (arith, some, ap length none))
 some_cut max bytes some (inr cut) = cut
 
+-- what a look at a frame asks for
+abbrev frame_looks : List ℕ → ℕ → Found FrameFault → Type 0
+frame_looks bytes seen found = OnMore found (AsksFrame bytes)
+
+-- where both bytes of a length are there, what follows doesn't change it
+begins_front : (len : ℕ) (bytes more : List ℕ) → 2 ≤ length bytes → BeginsWith len (bytes ++ more) → BeginsWith len bytes
+begins_front len [] more both begins = absurd (omega (arith, both))
+begins_front len (a ∷ []) more both begins = absurd (omega (arith, both))
+begins_front len (a ∷ b ∷ bytes) more both begins = record {
+  word = begins.word;
+  more = bytes;
+  equal = (let same : a ∷ b ∷ (bytes ++ more) ≡ header len ++ begins.more = begins.equal in cc);
+}
+
+-- as much as a look asked for has room for the frame
+offers_frame : (offer : ℕ) (bytes : List ℕ) → WasAskedFor frame_looks offer bytes → OffersFrame offer bytes
+offers_frame offer bytes (looked, seen, asked, asks, (few, room, more, is)) = elim (cases_lt (length looked) 2) [
+  | inl short ↦ (
+    omega (arith, asks.0 short, room),
+    λ len begins. absurd (omega (
+      arith,
+      few,
+      asks.0 short,
+      ap length begins.equal,
+      length-append (header len) begins.more,
+    )),
+  )
+  | inr both ↦ (
+    omega (arith, few, room, both, ap length is, length-append looked more),
+    λ len begins. omega (
+      arith,
+      room,
+      asks.1 len (begins_front len looked more both (subst (BeginsWith len) is begins)),
+    ),
+  )
+]
+
 module _ {S : Type 0} (remaining : S → Option (List ℕ)) (s t : ReaderState S Frames) where
+  -- what the last ask of a step had room for
+  pub step_offered : (answer : NextAnswer FrameFault) → s.ended ≡ false → NextPiece remaining (framed s.decoder.max) s answer t
+      → LooksFromLast (LookSays (λ (d : Frames). framed d.max) (λ _. frame_looks)) s t
+      → AskedWhere (OffersFrame t.reader.log.reads.offer) (left_of s) (left_of t)
+  step_offered answer going next looked =
+      let offer = t.reader.log.reads.offer in
+      AskedWhere-of (WasAskedFor frame_looks offer) (OffersFrame offer) (left_of s) (left_of t)
+      (λ more was. offers_frame offer (rest s ++ more) was)
+      (LooksFromLast-asked remaining (λ (d : Frames). framed d.max) (λ d. framed_lawful d.max d.fits) (λ _. frame_looks) s t
+      answer going next looked)
+
   -- what is left where there is no frame, as it is bytes
   leaves_of : (e : FrameError) (bytes : List ℕ) → AreBytes (rest t)
       → NextAnswers (framed s.decoder.max) s (Err (piece_error e)) bytes t → ErrorLeaves s.decoder.max e (rest t)
@@ -64,8 +118,10 @@ module _ {S : Type 0} (remaining : S → Option (List ℕ)) (s t : ReaderState S
   leaves_of (Io e) bytes small (none, open', fault, told, no_end) = cut_of s.decoder.max (rest t) small open'
 
   pub Next-failed : (e : FrameError) → AreBytes (rest t)
+      → AskedWhere (OffersFrame t.reader.log.reads.offer) (left_of s) (left_of t)
       → NextPiece remaining (framed s.decoder.max) s (Err (piece_error e)) t → Next remaining s (Err e) t
-  Next-failed e small next = record { piece = next; leaves = leaves_of e next.bytes small next.answers }
+  Next-failed e small offered next =
+      record { piece = next; offered = offered; leaves = leaves_of e next.bytes small next.answers }
 
 module _ {S : Type 0} (remaining : S → Option (List ℕ)) (s t : ReaderState S Frames) (payload : List ℕ) where
   -- the frame of what is handed out begins as what was left does

@@ -33,6 +33,10 @@ pub record BeginsWith (len : ℕ) (bytes : List ℕ) : Type 0 where
 abbrev pub AsksFrame : List ℕ → ℕ → Type 0
 AsksFrame bytes n = (length bytes < 2 → n ≡ 2) × ((len : ℕ) → BeginsWith len bytes → n ≡ 2 + len)
 
+-- an offer has room for the frame that these bytes begin, or for a length where that isn't there
+abbrev pub OffersFrame : ℕ → List ℕ → Type 0
+OffersFrame offer bytes = (2 ≤ offer) × ((len : ℕ) → BeginsWith len bytes → 2 + len ≤ offer)
+
 -- the bytes begin with a length above max
 pub record BeginsAbove (max : ℕ) (bytes : List ℕ) : Type 0 where
   pub len : ℕ

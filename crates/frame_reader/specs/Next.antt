@@ -1,18 +1,19 @@
 -- What the calls of a reader of frames promise: it is a reader of pieces, which are frames.
 use Rattle.std.specs.Prelude.{◌≡◌, ℕ, ◌+◌, ◌<◌, ◌⊎◌, List, [], length, false, Option, Result, Ok, Err, IfErr}
 use Rattle.std.specs.List.{All}
+use Rattle.buffer_redux.specs.Asking.{AskedWhere}
 use Rattle.codec.specs.declared.NextError.{NextError}
 use Rattle.codec.specs.declared.NextError.TheVariants as piece
 use Rattle.codec.specs.NextPiece as pieces
 use Rattle.codec.specs.NextPiece.{NextPiece, PiecesWent}
-use Rattle.codec.specs.PieceReader.{IsPieceReader, ReaderState, rest}
+use Rattle.codec.specs.PieceReader.{IsPieceReader, ReaderState, left_of, rest}
 use Rattle.frame_reader.specs.declared.error.FrameError.{FrameError}
 use Rattle.frame_reader.specs.declared.error.FrameError.TheVariants.{Truncated, TooLong, Io}
 use Rattle.frame_reader.specs.declared.frame.FrameFault.{FrameFault}
 use Rattle.frame_reader.specs.declared.frame.FrameFault.TheVariants as Fault
 use Rattle.frame_reader.specs.declared.frame.Frames.{Frames}
 use Rattle.frame_reader.specs.Framed.{framed}
-use Rattle.frame_reader.specs.Frames.{BeginsWith, Fits, IsCutShort, frames}
+use Rattle.frame_reader.specs.Frames.{BeginsWith, Fits, IsCutShort, OffersFrame, frames}
 
 -- what is true of every reader of frames: no frame is one only since the stream ends, so no end is left to tell
 pub record ReadsFrames {S : Type 0} (f : ReaderState S Frames) : Type 0 where
@@ -45,8 +46,9 @@ ErrorLeaves max (Truncated have) bytes = (have ≡ length bytes) × IsCutShort m
 ErrorLeaves max (TooLong len) bytes = (max < len) × BeginsWith len bytes
 ErrorLeaves max (Io e) bytes = (bytes ≡ []) ⊎ IsCutShort max bytes
 
--- what one call of `next` does
+-- what one call of `next` does. The last ask has room for the whole frame, once its length is there
 pub record Next {S : Type 0} (remaining : S → Option (List ℕ)) (s : ReaderState S Frames) (answer : FrameAnswer)
     (t : ReaderState S Frames) : Type 0 where
   pub piece : NextPiece remaining (framed s.decoder.max) s (as_piece_answer answer) t
+  pub offered : AskedWhere (OffersFrame t.reader.log.reads.offer) (left_of s) (left_of t)
   pub leaves : IfErr answer (λ e. ErrorLeaves s.decoder.max e (rest t))

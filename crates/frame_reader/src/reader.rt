@@ -185,7 +185,8 @@ impl<R: Tell> FrameReader<R> {
 
 impl<R: TellRead> FrameReader<R> {
     /// Lends the payload of the next frame out of the buffer; the next call drops it. `None` where the stream ended behind
-    /// the last frame. The stream is read only where no whole frame is buffered.
+    /// the last frame. The stream is read only where no whole frame is buffered, the last time with room for all of it, once its
+    /// length is there.
     ///
     /// An `Err` says why there is no frame, and leaves what came of it: the next call goes on from there. So a `TooLong` is
     /// returned each time, and after an interrupted read, which is an `Io` too, this is called again.

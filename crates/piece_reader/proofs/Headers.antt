@@ -1,10 +1,11 @@
 -- What a call of a reader of pieces has done so far, turn by turn.
-use Rattle.std.proofs.Common.{◌≡◌, ℕ, ◌<◌, List, [], ◌++◌, length, Bool, true, refl, sym, ap, ◌∙◌, arith, inl, inr, Option, Result, Ok}
+use Rattle.std.proofs.Common.{◌≡◌, ℕ, ◌<◌, ◌≤◌, List, [], ◌++◌, length, Bool, true, false, refl, sym, ap, ◌∙◌, arith, inl, inr, Option, Result, Ok}
 use Rattle.std.specs.declared.io.Error.{Error}
 use Rattle.buffer_redux.specs.Asking.{AskedOver}
 use Rattle.buffer_redux.specs.AskingLaws.{AskedOver-on}
 use Rattle.piece_reader.specs.Grammar.{Grammar, IsOpen, IsOpenBelow}
 use Rattle.piece_reader.specs.GrammarLaws.{open_with}
+use Rattle.piece_reader.specs.Looking.{IsAskedFor}
 use Rattle.piece_reader.specs.NextPiece.{AsksGive, PiecesWent, AskedUnlessEnded, NoFault, NoEnd, OffersMore, OffersOver}
 use Rattle.piece_reader.specs.NextPieceLaws.{AskedUnlessEnded-told, OffersMore-told}
 use Rattle.piece_reader.specs.PiecesWentLaws.{PiecesWent-none, PiecesWent-joins}
@@ -63,12 +64,20 @@ module _ {S D W : Type 0} (remaining : S → Option (List ℕ)) (g : Grammar W) 
 
       pub asked_on : AskedUnlessEnded (IsOpen g) s t
       asked_on = elim a.asked [
-        | inl same ↦ AskedUnlessEnded-told (IsOpen g) s m t same h.asked
+        | inl same ↦ AskedUnlessEnded-told (IsOpen g) s m t same.1 h.asked
         | inr over ↦ inr (
           sym h.ended ∙ over.0,
-          over_then (λ bytes. length bytes < n) (IsOpen g) t (λ more few. open_with g n (rest m) more (rest m ++ more) refl
-              few lacks) over.1,
+          over_then (λ bytes. (length bytes < n) × (n ≤ t.reader.log.reads.offer)) (IsOpen g) t
+              (λ more few. open_with g n (rest m) more (rest m ++ more) refl few.0 lacks) over.1,
         )
+      ]
+
+      -- the last ask was for so many, behind a look at what was left before
+      pub asked_last : s.ended ≡ false → AskedOver (IsAskedFor (rest m) n t.reader.log.reads.offer) (left_of s) (left_of t)
+      asked_last going = elim a.asked [
+        | inl same ↦ (let odd : true ≡ false = sym same.0 ∙ h.ended ∙ going in cc)
+        | inr over ↦ over_then (λ bytes. (length bytes < n) × (n ≤ t.reader.log.reads.offer))
+            (IsAskedFor (rest m) n t.reader.log.reads.offer) t (λ more few. (few.0, few.1, more, refl)) over.1
       ]
 
       pub offered_on : OffersMore s t

@@ -1,68 +1,64 @@
 -- Which looks the turns of `step_on` make.
-use Rattle.std.proofs.Common.{◌≡◌, ℕ, suc, ◌<◌, List, [], ◌++◌, length, true, Bool, Option, Some, None, Result, Ok, Err, refl, ap, subst, ◌∙◌, arith}
+use Rattle.std.proofs.Common.{◌≡◌, ℕ, suc, List, [], length, true, Bool, Option, Some, None, Result, Ok, Err, refl, sym, ap, subst, ◌∙◌, inr}
 use Rattle.std.specs.declared.io.Error.{Error}
+use Rattle.buffer_redux.specs.Asking.{AskedOver}
+use Rattle.buffer_redux.specs.AskingLaws.{AskedOver-same}
 use Rattle.piece_reader.specs.declared.decoder.Found.{Found}
 use Rattle.piece_reader.specs.declared.decoder.Found.TheVariants.{More}
 use Rattle.piece_reader.specs.declared.decoder.Span.{Span}
 use Rattle.piece_reader.specs.declared.error.NextError.{NextError}
 use Rattle.piece_reader.specs.declared.error.NextError.TheVariants.{Wrong, Io}
+use Rattle.piece_reader.specs.Decoding.{OnMore}
 use Rattle.piece_reader.specs.Grammar.{Grammar}
-use Rattle.piece_reader.specs.Looking.{LookedAt, LooksFromLast, LooksInTurn, LooksForMore, LookTells}
+use Rattle.piece_reader.specs.Looking.{EndsLooks, IsAskedFor, LooksFromLast, LooksInTurn, LooksForMore, LookTells}
 use Rattle.piece_reader.specs.PiecesWentLaws.{PiecesWent-joins}
-use Rattle.piece_reader.specs.PieceReader.{ReaderState, rest}
+use Rattle.piece_reader.specs.PieceReader.{ReaderState, left_of, rest}
 use Rattle.piece_reader.specs.Steps.{AsksFor, TakesEnd}
-use Rattle.piece_reader.proofs.Loading.{LoadHead, Turned}
+use Rattle.piece_reader.proofs.Headers.{asked_last}
+use Rattle.piece_reader.proofs.Loading.{LoadHead}
 
 module _ {S D W : Type 0} (looks : D → LookTells W) (s : ReaderState S D) (need : ℕ) where
-  -- these bytes were looked at in turn, with this answer
-  abbrev pub LooksTo : List ℕ → Found W → Type 0
-  LooksTo bytes found = (count : ℕ) × LooksInTurn (looks s.decoder) (rest s) need count bytes found
+  -- these bytes were looked at in turn, and the last look asked for so many
+  abbrev pub LooksTo : List ℕ → ℕ → Type 0
+  LooksTo bytes asked = (count : ℕ) × LooksInTurn (looks s.decoder) (rest s) need count bytes asked
 
-  module _ (remaining : S → Option (List ℕ)) (g : Grammar W) where
-    -- as many bytes came as were asked for, and were looked at from where the last look ended
-    pub looks_more : (m t : ReaderState S D) (asked : ℕ) → LoadHead remaining g s m asked → LooksTo (rest m) (More asked)
-        → AsksFor remaining g asked m (Ok true) t → (found : Found W) → looks t.decoder (rest t) t.seen found
-        → LooksTo (rest t) found
-    looks_more m t asked h to a found look =
-        let at = subst (λ d. looks d (rest t) t.seen found) (a.went.decoder ∙ h.header.went.decoder) look in (
-          suc to.0,
-          (
-            rest m,
-            a.went.hands.got,
-            asked,
-            to.1,
-            a.went.hands.equal,
-            (a.more refl).0,
-            subst (λ n. looks s.decoder (rest t) n found) (a.seen ∙ h.seen) at,
-          ),
-        )
+  module _ (remaining : S → Option (List ℕ)) (g : Grammar W) (m t : ReaderState S D) (asked : ℕ)
+      (h : LoadHead remaining g s m asked) (to : LooksTo (rest m) asked) where
+    module _ (a : AsksFor remaining g asked m (Ok true) t) (found : Found W) (look : looks t.decoder (rest t) t.seen found) where
+      -- as many bytes came as were asked for, and are looked at from where the last look ended
+      look_on : looks s.decoder (rest t) (length (rest m)) found
+      look_on = subst (λ n. looks s.decoder (rest t) n found) (a.seen ∙ h.seen)
+          (subst (λ d. looks d (rest t) t.seen found) (a.went.decoder ∙ h.header.went.decoder) look)
 
-    -- what came settled something
-    pub looked_turn : (t v : ReaderState S D) (found : Found W) → Turned remaining g s t found v → LooksTo (rest t) found
-        → v.reader ≡ t.reader → ((all : List ℕ) → rest t ≡ all → LookedAt found (rest t) all) → LooksForMore looks s need v
-    looked_turn t v found turn to same all = record {
-      count = to.0;
-      bytes = rest t;
-      found = found;
-      turns = to.1;
-      got = turn.header.went.hands.got;
-      given = ap (λ x. x.log.reads.given) same ∙ turn.header.went.hands.given;
-      all = all (rest s ++ turn.header.went.hands.got) turn.header.went.hands.equal;
-    }
+      pub looks_settle : OnMore found (λ _. ⊥) → EndsLooks (looks s.decoder) (rest m) asked (rest t)
+      looks_settle settles = inr ((a.more refl).0, found, look_on, settles)
 
-    -- fewer bytes came than were asked for
-    pub looked_end : {answer : Result Bool Error} (m t v : ReaderState S D) (asked : ℕ) → LoadHead remaining g s m asked
-        → LooksTo (rest m) (More asked) → AsksFor remaining g asked m answer t → length (rest t) < asked
-        → v.reader ≡ t.reader → LooksForMore looks s need v
-    looked_end m t v asked h to a few same =
+    pub looks_more : (a : AsksFor remaining g asked m (Ok true) t) (n : ℕ) → looks t.decoder (rest t) t.seen (More n)
+        → LooksTo (rest t) n
+    looks_more a n look = (
+      suc to.0,
+      (rest m, a.went.hands.got, asked, to.1, a.went.hands.equal, (a.more refl).0, look_on a (More n) look),
+    )
+
+    -- what came ends the looks, and no call of the reader inside follows
+    pub looked_last : (answer : Result Bool Error) (v : ReaderState S D) → AsksFor remaining g asked m answer t
+        → EndsLooks (looks s.decoder) (rest m) asked (rest t) → v.reader ≡ t.reader → LooksForMore looks s need v
+    looked_last answer v a ends same =
         let went = PiecesWent-joins remaining g.most s m t [] [] h.header.went a.went in record {
           count = to.0;
           bytes = rest m;
-          found = More asked;
+          asked = asked;
           turns = to.1;
+          last = λ going. subst
+              (λ x. AskedOver (IsAskedFor (rest m) asked x.log.reads.offer) (left_of s) (record (left_of v) { log = x.log }))
+              (sym same) (AskedOver-same (IsAskedFor (rest m) asked t.reader.log.reads.offer) (left_of s) (left_of t)
+              (record (left_of v) { log = t.reader.log }) refl
+              (asked_last remaining g s m h.header asked h.lacks answer t a going));
           got = went.hands.got;
           given = ap (λ x. x.log.reads.given) same ∙ went.hands.given;
-          all = omega (arith, few, ap length went.hands.equal);
+          more = a.went.hands.got;
+          all = sym went.hands.equal ∙ a.went.hands.equal;
+          ends = subst (EndsLooks (looks s.decoder) (rest m) asked) went.hands.equal ends;
         }
 
 -- at the end the reader inside isn't called
@@ -85,10 +81,13 @@ looks_on looks s m t need look same on =
       record {
         count = on'.count;
         bytes = on'.bytes;
-        found = on'.found;
+        asked = on'.asked;
         turns = on'.turns;
+        last = on'.last;
         got = on'.got;
         given = on'.given;
+        more = on'.more;
         all = on'.all;
+        ends = on'.ends;
       },
     )

@@ -13,7 +13,7 @@ use Rattle.buffer_redux.specs.MinBufferedLaws.{number_of, none_before_fault, non
 use Rattle.buffer_redux.specs.declared.policy.MinBuffered.{MinBuffered}
 use Rattle.piece_reader.specs.Grammar.{Grammar, IsOpen}
 use Rattle.buffer_redux.specs.Asking.{AskedOver}
-use Rattle.piece_reader.specs.NextPiece.{AskedUnlessEnded, Faulted, OffersMore, OffersOver, PiecesWent}
+use Rattle.piece_reader.specs.NextPiece.{Faulted, OffersMore, OffersOver, PiecesWent}
 use Rattle.piece_reader.specs.NextPieceLaws.{MetEnd-now}
 use Rattle.piece_reader.specs.PieceReader.{ReaderState, IsPieceReader, left_of, rest}
 use Rattle.piece_reader.specs.Steps.{AsksFor}
@@ -271,10 +271,14 @@ module _ {S D W : Type 0} (remaining : S → Option (List ℕ)) (g : Grammar W) 
   there : (came : List ℕ) → rest s ++ came ≡ s.reader.block.bytes ++ came
   there came = ap (λ l. l ++ came) (rest_whole s handed)
 
-  asked : s.reader.log.reads.asks < t.log.reads.asks → AskedUnlessEnded (λ bytes. length bytes < n) s filled
+  asked : s.reader.log.reads.asks < t.log.reads.asks
+      → AskedOver (λ bytes. (length bytes < n) × (n ≤ t.log.reads.offer)) (left_of s) (left_of filled)
   asked some =
       let few = few_asked some in
-      inr (not_ended, asked_over (λ bytes. length bytes < n) some (omega (arith, few.few, number, ap length (there few.came))))
+      asked_over (λ bytes. (length bytes < n) × (n ≤ t.log.reads.offer)) some (
+        omega (arith, few.few, number, ap length (there few.came)),
+        omega (arith, few.offer, number),
+      )
 
   offered : s.reader.log.reads.asks < t.log.reads.asks → OffersMore s filled
   offered some =
@@ -300,7 +304,7 @@ module _ {S D W : Type 0} (remaining : S → Option (List ℕ)) (g : Grammar W) 
         handed = handed;
         seen = refl;
         ended = refl;
-        asked = asked asking;
+        asked = inr (not_ended, asked asking);
         offered = offered asking;
         more = λ yes.
             let came : some ≡ true = cc in
@@ -334,7 +338,7 @@ module _ {S D W : Type 0} (remaining : S → Option (List ℕ)) (g : Grammar W) 
         handed = handed;
         seen = refl;
         ended = refl;
-        asked = asked asking;
+        asked = inr (not_ended, asked asking);
         offered = offered asking;
         more = λ other. cc;
         end = λ other. cc;

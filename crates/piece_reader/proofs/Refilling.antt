@@ -1,5 +1,5 @@
 -- What one ask of the stream does where nothing is left.
-use Rattle.std.proofs.Common.{◌≡◌, ◌↔◌, ℕ, ◌<◌, List, [], ◌∷◌, ◌++◌, length, Bool, true, false, Option, Result, Ok, Err, refl, sym, ap, subst, ◌∙◌, arith, inl, inr, length-append}
+use Rattle.std.proofs.Common.{◌≡◌, ◌↔◌, ℕ, ◌<◌, ◌≤◌, List, [], ◌∷◌, ◌++◌, length, Bool, true, false, Option, Result, Ok, Err, refl, sym, ap, subst, ◌∙◌, arith, inl, inr, length-append}
 use Rattle.std.proofs.lemmas.List.{nil_from_length}
 use Rattle.std.specs.declared.io.Error.{Error}
 use Rattle.buffer_redux.specs.AskingLaws.{AskedOver-on}
@@ -28,24 +28,27 @@ module _ {S D W : Type 0} (remaining : S → Option (List ℕ)) (g : Grammar W) 
   header : HeaderBytes remaining g s m
   header = HeaderBytes-told remaining g s s (HeaderBytes-none remaining g s) m went told ended
 
-  asked_empty : (t : ReaderState S D) → AskedUnlessEnded (λ bytes. length bytes < 1) m t
+  asked_empty : (answer : Result Bool Error) (t : ReaderState S D) → AsksFor remaining g 1 m answer t
       → AskedUnlessEnded (λ bytes. bytes ≡ []) s t
-  asked_empty t (inl same) = inl (same ∙ told)
-  asked_empty t (inr over) = inr (
-    sym ended ∙ over.0,
-    AskedOver-on (λ bytes. length bytes < 1) (λ bytes. bytes ≡ []) (left_of s) (left_of m) (left_of t) [] went.hands
-        went.grows.asks header.asks (λ more few. nil_from_length (rest m ++ more) (omega (arith, few))) over.1,
-  )
+  asked_empty answer t a = elim a.asked [
+    | inl same ↦ inl (same.1 ∙ told)
+    | inr over ↦ inr (
+      sym ended ∙ over.0,
+      AskedOver-on (λ bytes. (length bytes < 1) × (1 ≤ t.reader.log.reads.offer)) (λ bytes. bytes ≡ []) (left_of s) (left_of m)
+          (left_of t) [] went.hands went.grows.asks header.asks
+          (λ more few. nil_from_length (rest m ++ more) (omega (arith, few.0))) over.1,
+    )
+  ]
 
   -- at each ask nothing was there
   offered_all : (answer : Result Bool Error) (t : ReaderState S D) → AsksFor remaining g 1 m answer t → OffersAll s t
   offered_all answer t a = elim a.offered [
     | inl same ↦ inl (same ∙ told)
     | inr over ↦ elim a.asked [
-      | inl same ↦ inl (same ∙ told)
+      | inl same ↦ inl (same.1 ∙ told)
       | inr asked ↦ inr (over.such.1 (nil_from_length (rest m ++ over.came) (omega (
         arith,
-        asked.1.such,
+        asked.1.such.0,
         ap length asked.1.given,
         ap length over.given,
         length-append m.reader.log.reads.given (asked.1.came ++ t.reader.log.reads.latest),
@@ -69,7 +72,7 @@ module _ {S D W : Type 0} (remaining : S → Option (List ℕ)) (g : Grammar W) 
         (PiecesWent-inside remaining g.most t noted [] refl refl refl)
 
     asked_then : AsksFor remaining g 1 m (Ok came) t → AskedUnlessEnded (λ bytes. bytes ≡ []) s noted
-    asked_then a = AskedUnlessEnded-told (λ bytes. bytes ≡ []) s t noted refl (asked_empty t a.asked)
+    asked_then a = AskedUnlessEnded-told (λ bytes. bytes ≡ []) s t noted refl (asked_empty (Ok came) t a)
 
     still_whole : AsksFor remaining g 1 m (Ok came) t → (flag ≡ true → rest t ≡ []) → IsPieceReader g noted
     still_whole a none_left = whole_as g t a.whole t.handed t.seen flag a.whole.handed a.whole.searched none_left
@@ -116,7 +119,7 @@ module _ {S D W : Type 0} (remaining : S → Option (List ℕ)) (g : Grammar W) 
     fails e a =
         let f = a.failed e refl in record {
           went = PiecesWent-joins remaining g.most s m t [] [] went a.went;
-          asked = asked_empty t a.asked;
+          asked = asked_empty (Err e) t a;
           offered = offered_all (Err e) t a;
           more = λ odd. cc;
           end = λ odd. cc;

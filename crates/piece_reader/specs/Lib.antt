@@ -10,6 +10,7 @@ pub mod KnownPayloads
 pub mod KnownPieces
 pub mod KnownPiecesLaws
 pub mod Looking
+pub mod LookingLaws
 pub mod NextPiece
 pub mod NextPieceLaws
 pub mod PieceReader

@@ -1,10 +1,11 @@
 -- Which looks a reader of pieces makes.
-use Rattle.std.specs.Prelude.{◌≡◌, ℕ, zero, suc, ◌<◌, ◌≤◌, List, ◌++◌, length}
+use Rattle.std.specs.Prelude.{◌≡◌, ℕ, zero, suc, ◌<◌, ◌≤◌, ◌⊎◌, List, ◌++◌, length, false}
+use Rattle.buffer_redux.specs.Asking.{AskedOver}
 use Rattle.piece_reader.specs.declared.decoder.Found.{Found}
-use Rattle.piece_reader.specs.declared.decoder.Found.TheVariants.{Piece, More, Wrong}
+use Rattle.piece_reader.specs.declared.decoder.Found.TheVariants.{More}
 use Rattle.piece_reader.specs.Decoding.{Decodes, OnMore}
 use Rattle.piece_reader.specs.Grammar.{Grammar}
-use Rattle.piece_reader.specs.PieceReader.{ReaderState, rest}
+use Rattle.piece_reader.specs.PieceReader.{ReaderState, left_of, rest}
 
 -- what a decoder tells of a look at these bytes, the first so many of which were looked at before
 abbrev pub LookTells : Type 0 → Type 1
@@ -15,29 +16,37 @@ abbrev pub LookSays : {D W : Type 0} → (D → Grammar W) → (D → LookTells 
 LookSays grammar looks d bytes seen found = Decodes (grammar d) bytes found × looks d bytes seen found
 
 -- so many looks, behind one at the first bytes that asked for this many: each begins where the one before ended, once as many
--- bytes had come as that asked for; and what the last one answered, and of which bytes
-abbrev pub LooksInTurn : {W : Type 0} → LookTells W → List ℕ → ℕ → ℕ → List ℕ → Found W → Type 0
-LooksInTurn looks first need zero bytes found = (first ≡ bytes) × (found ≡ More need)
-LooksInTurn looks first need (suc count) bytes found =
-    (before more : List ℕ) × (asked : ℕ) × LooksInTurn looks first need count before (More asked) × (bytes ≡ before ++ more)
-    × (asked ≤ length bytes) × looks bytes (length before) found
+-- bytes had come as that asked for; and of which bytes the last one was, and how many it asked for
+abbrev pub LooksInTurn : {W : Type 0} → LookTells W → List ℕ → ℕ → ℕ → List ℕ → ℕ → Type 0
+LooksInTurn looks first need zero bytes asked = (first ≡ bytes) × (asked ≡ need)
+LooksInTurn looks first need (suc count) bytes asked =
+    (before more : List ℕ) × (n : ℕ) × LooksInTurn looks first need count before n × (bytes ≡ before ++ more)
+    × (n ≤ length bytes) × looks bytes (length before) (More asked)
 
--- all that came was looked at where that settled something, and else it is less than what was asked for
-abbrev pub LookedAt : {W : Type 0} → Found W → List ℕ → List ℕ → Type 0
-LookedAt (Piece span used) bytes all = bytes ≡ all
-LookedAt (More need) bytes all = length all < need
-LookedAt (Wrong e) bytes all = bytes ≡ all
+-- behind a look at these bytes, which asked for so many, fewer were there, and an offer had room for as many
+abbrev pub IsAskedFor : List ℕ → ℕ → ℕ → List ℕ → Type 0
+IsAskedFor looked asked offer bytes =
+    (length bytes < asked) × (asked ≤ offer) × (more : List ℕ) × (bytes ≡ looked ++ more)
 
--- behind a look that asked for so many bytes what was left, and what came, was looked at in turn
+-- fewer bytes are there than a look asked for; or as many, and a look from where that one ended settles something
+abbrev pub EndsLooks : {W : Type 0} → LookTells W → List ℕ → ℕ → List ℕ → Type 0
+EndsLooks {W} looks looked asked bytes = (length bytes < asked)
+    ⊎ ((asked ≤ length bytes) × (found : Found W) × looks bytes (length looked) found × OnMore found (λ _. ⊥))
+
+-- behind a look that asked for so many bytes what was left, and what came, was looked at in turn. Unless the stream had ended, it
+-- was asked the last time for as many as the last look asked for that settled nothing
 pub record LooksForMore {S D W : Type 0} (looks : D → LookTells W) (s : ReaderState S D) (need : ℕ)
     (t : ReaderState S D) : Type 0 where
   pub count : ℕ
   pub bytes : List ℕ
-  pub found : Found W
-  pub turns : LooksInTurn (looks s.decoder) (rest s) need count bytes found
+  pub asked : ℕ
+  pub turns : LooksInTurn (looks s.decoder) (rest s) need count bytes asked
+  pub last : s.ended ≡ false → AskedOver (IsAskedFor bytes asked t.reader.log.reads.offer) (left_of s) (left_of t)
   pub got : List ℕ
   pub given : t.reader.log.reads.given ≡ s.reader.log.reads.given ++ got
-  pub all : LookedAt found bytes (rest s ++ got)
+  pub more : List ℕ
+  pub all : rest s ++ got ≡ bytes ++ more
+  pub ends : EndsLooks (looks s.decoder) bytes asked (rest s ++ got)
 
 -- what is left was looked at from where the last look ended
 abbrev pub LooksAtRest : {S D W : Type 0} → (D → List ℕ → ℕ → Found W → Type 0) → ReaderState S D → Type 0

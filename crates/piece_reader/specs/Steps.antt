@@ -1,6 +1,7 @@
 -- What the steps of a reader of pieces do.
-use Rattle.std.specs.Prelude.{◌≡◌, ℕ, ◌+◌, ◌<◌, ◌≤◌, List, [], length, Bool, true, false, Option, None, Some, Result, Ok, Err}
+use Rattle.std.specs.Prelude.{◌≡◌, ℕ, ◌+◌, ◌<◌, ◌≤◌, ◌⊎◌, List, [], length, Bool, true, false, Option, None, Some, Result, Ok, Err}
 use Rattle.std.specs.declared.io.Error.{Error}
+use Rattle.buffer_redux.specs.Asking.{AskedOver}
 use Rattle.piece_reader.specs.declared.decoder.Found.{Found}
 use Rattle.piece_reader.specs.declared.decoder.Found.TheVariants as found
 use Rattle.piece_reader.specs.declared.decoder.Span.{Span}
@@ -8,8 +9,8 @@ use Rattle.piece_reader.specs.declared.error.NextError.{NextError}
 use Rattle.piece_reader.specs.declared.error.NextError.TheVariants.{Wrong, Io}
 use Rattle.piece_reader.specs.Decoding.{IsPiece, bytes_at}
 use Rattle.piece_reader.specs.Grammar.{Grammar, IsOpenBelow}
-use Rattle.piece_reader.specs.NextPiece.{AsksGive, PiecesWent, AskedUnlessEnded, NoFault, Faulted, NoEnd, MetEnd, OffersMore}
-use Rattle.piece_reader.specs.PieceReader.{ReaderState, IsPieceReader, rest}
+use Rattle.piece_reader.specs.NextPiece.{AsksGive, PiecesWent, NoFault, Faulted, NoEnd, MetEnd, OffersMore}
+use Rattle.piece_reader.specs.PieceReader.{ReaderState, IsPieceReader, left_of, rest}
 
 -- what stands at the front of what is left was looked at, and handed out where it is a piece; or that isn't there yet
 abbrev pub Takes : {S D W : Type 0} → Grammar W → ReaderState S D → Found W → ReaderState S D → Type 0
@@ -18,14 +19,15 @@ Takes g s (found.More need) t =
     (length (rest s) < need) × (need ≤ g.most) × IsOpenBelow g need (rest s) × (t ≡ record s { seen = length (rest s) })
 Takes g s (found.Wrong e) t = g.wrong (rest s) e × (t ≡ s)
 
--- the stream was asked until n bytes are left, unless it has ended; nothing else was done
+-- the stream was asked until n bytes are left, unless it has ended, the last time for as many; nothing else was done
 pub record AsksFor {S D W : Type 0} (remaining : S → Option (List ℕ)) (g : Grammar W) (n : ℕ) (s : ReaderState S D)
     (answer : Result Bool Error) (t : ReaderState S D) : Type 0 where
   pub went : PiecesWent remaining g.most s [] t
   pub handed : t.handed ≡ 0
   pub seen : t.seen ≡ s.seen
   pub ended : t.ended ≡ s.ended
-  pub asked : AskedUnlessEnded (λ bytes. length bytes < n) s t
+  pub asked : ((s.ended ≡ true) × (t.reader.log ≡ s.reader.log))
+      ⊎ ((s.ended ≡ false) × AskedOver (λ bytes. (length bytes < n) × (n ≤ t.reader.log.reads.offer)) (left_of s) (left_of t))
   pub offered : OffersMore s t
   pub more : answer ≡ Ok true → (n ≤ length (rest t)) × NoEnd s t × NoFault s t
       × AsksGive s t
