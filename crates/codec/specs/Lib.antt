@@ -11,6 +11,7 @@ pub use Rattle.piece_reader.specs.KnownPieces
 pub use Rattle.piece_reader.specs.KnownPiecesLaws
 pub use Rattle.piece_reader.specs.Looking
 pub use Rattle.piece_reader.specs.LookingLaws
+pub use Rattle.piece_reader.specs.NextPayload
 pub use Rattle.piece_reader.specs.NextPiece
 pub use Rattle.piece_reader.specs.NextPieceLaws
 pub use Rattle.piece_reader.specs.PieceReader

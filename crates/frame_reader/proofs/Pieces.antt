@@ -1,9 +1,7 @@
 -- What a call of a reader of pieces leaves, in the words of frames.
-use Rattle.std.proofs.Common.{◌≡◌, ℕ, ◌+◌, ◌<◌, ◌≤◌, ◌⊎◌, List, [], ◌∷◌, ◌++◌, append-nil, false, length, length-append, take, sym, ap, subst, ◌∙◌, arith, inl, inr, refl, Option, None, Ok, Err, Some, IfSome, drop, length-drop, length-take-le}
+use Rattle.std.proofs.Common.{◌≡◌, ℕ, ◌+◌, ◌<◌, ◌≤◌, ◌⊎◌, List, [], ◌∷◌, ◌++◌, append-nil, length, length-append, take, sym, ap, subst, ◌∙◌, arith, inl, inr, refl, Option, None, Ok, Err, Some, IfSome, drop, length-drop, length-take-le}
 use Rattle.std.proofs.lemmas.Bool.{cases_lt}
 use Rattle.std.specs.Int.{w16, from_be_bytes}
-use Rattle.buffer_redux.specs.Asking.{AskedWhere}
-use Rattle.buffer_redux.specs.AskingLaws.{AskedWhere-of}
 use Rattle.codec.specs.declared.Found.{Found}
 use Rattle.codec.specs.declared.Span.{Span}
 use Rattle.codec.specs.Decoding.{IsLent, OnMore}
@@ -11,10 +9,10 @@ use Rattle.codec.specs.Grammar.{IsOpen}
 use Rattle.codec.specs.GrammarLaws.{begins_of}
 use Rattle.codec.specs.Looking.{LookSays, LooksFromLast}
 use Rattle.codec.specs.LookingLaws.{LooksFromLast-asked, WasAskedFor}
-use Rattle.codec.specs.NextPiece.{NextAnswer, NextAnswers, NextBuffered, NextPiece}
+use Rattle.codec.specs.NextPiece.{AskedUnlessEnded, NextAnswer, NextAnswers, NextBuffered, NextPiece}
 use Rattle.codec.specs.NextPieceLaws.{fronts_agree}
 use Rattle.codec.specs.PiecesWentLaws.{PiecesWent-unasked}
-use Rattle.codec.specs.PieceReader.{ReaderState, left_of, rest}
+use Rattle.codec.specs.PieceReader.{ReaderState, rest}
 use Rattle.frame_reader.specs.declared.error.FrameError.{FrameError}
 use Rattle.frame_reader.specs.declared.error.FrameError.TheVariants.{Truncated, TooLong, Io}
 use Rattle.frame_reader.specs.declared.frame.FrameFault.{FrameFault}
@@ -93,15 +91,13 @@ offers_frame offer bytes (looked, seen, asked, asks, (few, room, more, is)) = el
 
 module _ {S : Type 0} (remaining : S → Option (List ℕ)) (s t : ReaderState S Frames) where
   -- what the last ask of a step had room for
-  pub step_offered : (answer : NextAnswer FrameFault) → s.ended ≡ false → NextPiece remaining (framed s.decoder.max) s answer t
+  pub step_offered : (answer : NextAnswer FrameFault) → NextPiece remaining (framed s.decoder.max) s answer t
       → LooksFromLast (LookSays (λ (d : Frames). framed d.max) (λ _. frame_looks)) s t
-      → AskedWhere (OffersFrame t.reader.log.reads.offer) (left_of s) (left_of t)
-  step_offered answer going next looked =
+      → AskedUnlessEnded (OffersFrame t.reader.log.reads.offer) s t
+  step_offered answer next looked =
       let offer = t.reader.log.reads.offer in
-      AskedWhere-of (WasAskedFor frame_looks offer) (OffersFrame offer) (left_of s) (left_of t)
-      (λ more was. offers_frame offer (rest s ++ more) was)
-      (LooksFromLast-asked remaining (λ (d : Frames). framed d.max) (λ d. framed_lawful d.max d.fits) (λ _. frame_looks) s t
-      answer going next looked)
+      LooksFromLast-asked remaining (λ (d : Frames). framed d.max) (λ d. framed_lawful d.max d.fits) (λ _. frame_looks) s t
+      answer next (OffersFrame offer) (offers_frame offer) looked
 
   -- what is left where there is no frame, as it is bytes
   leaves_of : (e : FrameError) (bytes : List ℕ) → AreBytes (rest t)
@@ -118,7 +114,7 @@ module _ {S : Type 0} (remaining : S → Option (List ℕ)) (s t : ReaderState S
   leaves_of (Io e) bytes small (none, open', fault, told, no_end) = cut_of s.decoder.max (rest t) small open'
 
   pub Next-failed : (e : FrameError) → AreBytes (rest t)
-      → AskedWhere (OffersFrame t.reader.log.reads.offer) (left_of s) (left_of t)
+      → AskedUnlessEnded (OffersFrame t.reader.log.reads.offer) s t
       → NextPiece remaining (framed s.decoder.max) s (Err (piece_error e)) t → Next remaining s (Err e) t
   Next-failed e small offered next =
       record { piece = next; offered = offered; leaves = leaves_of e next.bytes small next.answers }

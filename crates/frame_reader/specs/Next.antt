@@ -1,12 +1,11 @@
 -- What the calls of a reader of frames promise: it is a reader of pieces, which are frames.
 use Rattle.std.specs.Prelude.{◌≡◌, ℕ, ◌+◌, ◌<◌, ◌⊎◌, List, [], length, false, Option, Result, Ok, Err, IfErr}
 use Rattle.std.specs.List.{All}
-use Rattle.buffer_redux.specs.Asking.{AskedWhere}
 use Rattle.codec.specs.declared.NextError.{NextError}
 use Rattle.codec.specs.declared.NextError.TheVariants as piece
 use Rattle.codec.specs.NextPiece as pieces
-use Rattle.codec.specs.NextPiece.{NextPiece, PiecesWent}
-use Rattle.codec.specs.PieceReader.{IsPieceReader, ReaderState, left_of, rest}
+use Rattle.codec.specs.NextPiece.{AskedUnlessEnded, NextPiece, PiecesWent}
+use Rattle.codec.specs.PieceReader.{IsPieceReader, ReaderState, rest}
 use Rattle.frame_reader.specs.declared.error.FrameError.{FrameError}
 use Rattle.frame_reader.specs.declared.error.FrameError.TheVariants.{Truncated, TooLong, Io}
 use Rattle.frame_reader.specs.declared.frame.FrameFault.{FrameFault}
@@ -50,5 +49,5 @@ ErrorLeaves max (Io e) bytes = (bytes ≡ []) ⊎ IsCutShort max bytes
 pub record Next {S : Type 0} (remaining : S → Option (List ℕ)) (s : ReaderState S Frames) (answer : FrameAnswer)
     (t : ReaderState S Frames) : Type 0 where
   pub piece : NextPiece remaining (framed s.decoder.max) s (as_piece_answer answer) t
-  pub offered : AskedWhere (OffersFrame t.reader.log.reads.offer) (left_of s) (left_of t)
+  pub offered : AskedUnlessEnded (OffersFrame t.reader.log.reads.offer) s t
   pub leaves : IfErr answer (λ e. ErrorLeaves s.decoder.max e (rest t))

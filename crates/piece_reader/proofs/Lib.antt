@@ -5,6 +5,7 @@ pub mod Headers
 pub mod Lending
 pub mod Loading
 pub mod Looking
+pub mod Prefixed
 pub mod Reading
 pub mod Refilling
 pub mod Saying

@@ -28,10 +28,16 @@ pub record IsHeaderFormat (h : HeaderFormat) : Type 0 where
   pub nothing : h.header [] ≡ Short
   pub small : h.most_header + h.max + length h.tail < 2 ^ 63
 
--- once the header is there, these bytes want the payload and the first byte of the tail, and then one byte more
+-- these bytes want one more until the header is there; then they want the payload and the first byte of the tail; and behind
+-- these one more
 abbrev pub AsksPayload : HeaderFormat → List ℕ → ℕ → Type 0
-AsksPayload h bytes n = (len used : ℕ) → h.header bytes ≡ Sized len used
-    → n ≡ max (1 + length bytes) (used + len + min (length h.tail) 1)
+AsksPayload h bytes n = (h.header bytes ≡ Short → n ≡ 1 + length bytes)
+    × ((len used : ℕ) → h.header bytes ≡ Sized len used → n ≡ max (1 + length bytes) (used + len + min (length h.tail) 1))
+
+-- an offer has room for the payload and the first byte of the tail, once the header is there
+abbrev pub OffersPayload : HeaderFormat → ℕ → List ℕ → Type 0
+OffersPayload h offer bytes =
+    (len used : ℕ) → h.header bytes ≡ Sized len used → used + len + min (length h.tail) 1 ≤ offer
 
 -- however the bytes go on, something else stands where the tail should
 abbrev pub NeverFollows : List ℕ → ℕ → List ℕ → Type 0

@@ -8,9 +8,10 @@ use Rattle.piece_reader.specs.declared.header.Header.{Header}
 use Rattle.piece_reader.specs.declared.header.Header.TheVariants.{Short, Sized, Bad}
 use Rattle.piece_reader.specs.declared.header_error.HeaderError.{HeaderError}
 use Rattle.piece_reader.specs.declared.header_error.HeaderError.TheVariants.{NoHeader, NoTail, TooLong, Truncated}
-use Rattle.piece_reader.specs.Decoding.{IsPiece}
+use Rattle.piece_reader.specs.Decoding.{IsPiece, OnMore}
 use Rattle.piece_reader.specs.Grammar.{IsLawful, IsOpenBelow}
-use Rattle.piece_reader.specs.HeaderFormat.{BeginsNone, HeaderFormat, IsHeaderFormat, NeverFollows, length_prefixed}
+use Rattle.piece_reader.specs.HeaderFormat.{AsksPayload, BeginsNone, HeaderFormat, IsHeaderFormat, NeverFollows, OffersPayload, length_prefixed}
+use Rattle.piece_reader.specs.LookingLaws.{WasAskedFor}
 
 sized_same : (n u n' u' : ℕ) (x : Header) → x ≡ Sized n u → x ≡ Sized n' u' → (n ≡ n') × (u ≡ u')
 sized_same n u n' u' x is is' =
@@ -189,3 +190,22 @@ module _ (h : HeaderFormat) (law : IsHeaderFormat h) where
               ∙ drop_seam header (payload ++ h.tail),
         );
       }
+
+-- where as many bytes were asked for as a look wants, an offer has room for the payload
+pub AsksPayload-offers : (h : HeaderFormat) → IsHeaderFormat h → (offer : ℕ) (bytes : List ℕ)
+    → WasAskedFor (λ looked seen found. OnMore {W = HeaderError} found (AsksPayload h looked)) offer bytes
+    → OffersPayload h offer bytes
+AsksPayload-offers h law offer bytes (looked, seen, asked, asks, (few, room, more, is)) len used says =
+    elim (h.header looked) as (λ x. x ≡ h.header looked → used + len + min (length h.tail) 1 ≤ offer) [
+      | Short ↦ λ short.
+          let none : more ≡ [] =
+          nil_from_length more (omega (arith, few, asks.0 (sym short), ap length is, length-append looked more)) in
+          let same : bytes ≡ looked = is ∙ ap (λ l. looked ++ l) none ∙ append-nil looked in
+          (let odd : ◌≡◌ {A = Header} Short (Sized len used) = short ∙ ap h.header (sym same) ∙ says in cc)
+      | Sized n u ↦ λ sized.
+          let same = sized_same n u len used (h.header bytes) (ap h.header is ∙ law.sized looked more n u (sym sized)) says in
+          omega (arith, room, asks.1 n u (sym sized), same.0, same.1)
+      | Bad ↦ λ bad.
+          (let odd : ◌≡◌ {A = Header} Bad (Sized len used) =
+          sym (law.bad looked more (sym bad)) ∙ ap h.header (sym is) ∙ says in cc)
+    ] refl

@@ -11,6 +11,7 @@ pub mod KnownPieces
 pub mod KnownPiecesLaws
 pub mod Looking
 pub mod LookingLaws
+pub mod NextPayload
 pub mod NextPiece
 pub mod NextPieceLaws
 pub mod PieceReader

@@ -9,7 +9,7 @@ use Rattle.piece_reader.specs.declared.decoder.Found.TheVariants.{Piece, More, W
 use Rattle.piece_reader.specs.Decoding.{bytes_at}
 use Rattle.piece_reader.specs.Grammar.{Grammar, IsLawful}
 use Rattle.piece_reader.specs.Looking.{IsAskedFor, LooksForMore, LooksFromLast, LooksInTurn, LookSays, LookTells}
-use Rattle.piece_reader.specs.NextPiece.{NextAnswer, NextPiece}
+use Rattle.piece_reader.specs.NextPiece.{AskedUnlessEnded, NextAnswer, NextPiece}
 use Rattle.piece_reader.specs.NextPieceLaws.{NextPiece-ready, NextPiece-wrong}
 use Rattle.piece_reader.specs.PieceReader.{ReaderState, left_of, rest}
 
@@ -27,18 +27,32 @@ last_look looks first seen need zero bytes asked look (same, is) =
 last_look looks first seen need (suc count) bytes asked look turn =
     let (before, more, n, turns, equal, enough, last) = turn in (length before, last)
 
--- a step asked the stream the last time for as many bytes as a look at what was there asked for
-pub LooksFromLast-asked : {S D W : Type 0} (remaining : S → Option (List ℕ)) (grammar : D → Grammar W)
-    (law : (d : D) → IsLawful (grammar d)) (looks : D → LookTells W) (s t : ReaderState S D) (answer : NextAnswer W)
-    → s.ended ≡ false → NextPiece remaining (grammar s.decoder) s answer t → LooksFromLast (LookSays grammar looks) s t
-    → AskedWhere (WasAskedFor (looks s.decoder) t.reader.log.reads.offer) (left_of s) (left_of t)
-LooksFromLast-asked remaining grammar law looks s t answer going next (Piece span used, look, on) =
-    inl (NextPiece-ready remaining (grammar s.decoder) (law s.decoder) s answer t next (take used (rest s))
-    (bytes_at span (rest s)) (drop used (rest s)) look.0.is (sym (take-append-drop used (rest s)))).2
-LooksFromLast-asked remaining grammar law looks s t answer going next (Wrong e, look, on) =
-    inl (NextPiece-wrong remaining (grammar s.decoder) (law s.decoder) s answer t next e look.0).2
-LooksFromLast-asked remaining grammar law looks s t answer going next (More need, look, on) =
-    let last = last_look (LookSays grammar looks s.decoder) (rest s) s.seen need on.count on.bytes on.asked look on.turns in
-    let offer = t.reader.log.reads.offer in
-    AskedWhere-of (IsAskedFor on.bytes on.asked offer) (WasAskedFor (looks s.decoder) offer) (left_of s) (left_of t)
-    (λ more is. (on.bytes, last.0, on.asked, last.1.1, is)) (inr (on.last going))
+module _ {S D W : Type 0} (remaining : S → Option (List ℕ)) (grammar : D → Grammar W) (law : (d : D) → IsLawful (grammar d))
+    (looks : D → LookTells W) (s t : ReaderState S D) (answer : NextAnswer W)
+    (next : NextPiece remaining (grammar s.decoder) s answer t) where
+  abbrev pub offer : ℕ
+  offer = t.reader.log.reads.offer
+
+  last_asked : s.ended ≡ false → LooksFromLast (LookSays grammar looks) s t
+      → AskedWhere (WasAskedFor (looks s.decoder) offer) (left_of s) (left_of t)
+  last_asked going (Piece span used, look, on) =
+      inl (NextPiece-ready remaining (grammar s.decoder) (law s.decoder) s answer t next (take used (rest s))
+      (bytes_at span (rest s)) (drop used (rest s)) look.0.is (sym (take-append-drop used (rest s)))).2
+  last_asked going (Wrong e, look, on) =
+      inl (NextPiece-wrong remaining (grammar s.decoder) (law s.decoder) s answer t next e look.0).2
+  last_asked going (More need, look, on) =
+      let last = last_look (LookSays grammar looks s.decoder) (rest s) s.seen need on.count on.bytes on.asked look on.turns in
+      AskedWhere-of (IsAskedFor on.bytes on.asked offer) (WasAskedFor (looks s.decoder) offer) (left_of s) (left_of t)
+      (λ more is. (on.bytes, last.0, on.asked, last.1.1, is)) (inr (on.last going))
+
+  -- a step asked the stream the last time for as many bytes as a look at what was there asked for, if that settles this much
+  pub LooksFromLast-asked : (Such : List ℕ → Type 0) → ((bytes : List ℕ) → WasAskedFor (looks s.decoder) offer bytes → Such bytes)
+      → LooksFromLast (LookSays grammar looks) s t → AskedUnlessEnded Such s t
+  LooksFromLast-asked Such so looked = elim next.asked [
+    | inl same ↦ inl same
+    | inr over ↦ elim (AskedWhere-of (WasAskedFor (looks s.decoder) offer) Such (left_of s) (left_of t)
+        (λ more was. so (rest s ++ more) was) (last_asked over.0 looked)) [
+          | inl same ↦ inl same
+          | inr last ↦ inr (over.0, last)
+        ]
+  ]

@@ -1,10 +1,9 @@
 -- What is left is bytes, so where these settle nothing there are none, or they are a frame that is cut short.
 use Rattle.std.proofs.Common.{◌∙◌, Err, List, None, Ok, Option, Some, ap, subst, sym, ℕ}
-use Rattle.buffer_redux.specs.Asking.{AskedWhere}
 use Rattle.codec.specs.declared.NextError.{NextError}
 use Rattle.codec.specs.declared.Span.{Span}
-use Rattle.codec.specs.NextPiece.{NextPiece, load_answer}
-use Rattle.codec.specs.PieceReader.{ReaderState, left_of}
+use Rattle.codec.specs.NextPiece.{AskedUnlessEnded, NextPiece, load_answer}
+use Rattle.codec.specs.PieceReader.{ReaderState}
 use Rattle.frame_reader.specs.declared.error.FrameError.{FrameError}
 use Rattle.frame_reader.specs.declared.frame.FrameFault.{FrameFault}
 use Rattle.frame_reader.specs.declared.frame.Frames.{Frames}
@@ -21,12 +20,12 @@ returns-in-Err-clause-next g c =
     let t = c.step.new.self in
     subst (λ x. Next remaining x (Err c.no_frame.result) t) c.self.view_is
     (Next-failed remaining s t c.no_frame.result c.no_frame.ensures.bytes
-    (step_offered remaining s t _ c.self.invariant.told c.in-Err.ensures.next c.in-Err.ensures.looked)
+    (step_offered remaining s t _ c.in-Err.ensures.next c.in-Err.ensures.looked)
     (subst (λ e. NextPiece remaining (framed s.decoder.max) s (Err e) t) (sym c.no_frame.ensures.error) c.in-Err.ensures.next))
 
 -- an answer without an error is one of frames as it is one of pieces
 found_next : {S : Type 0} (remaining : S → Option (List ℕ)) (s t : ReaderState S Frames) (found : Option Span)
-    → AskedWhere (OffersFrame t.reader.log.reads.offer) (left_of s) (left_of t)
+    → AskedUnlessEnded (OffersFrame t.reader.log.reads.offer) s t
     → NextPiece remaining (framed s.decoder.max) s (load_answer {E = NextError FrameFault} (Ok found) t) t
     → Next remaining s (load_answer {E = FrameError} (Ok found) t) t
 found_next remaining s t (Some span) offered next = record { piece = next; offered = offered; leaves = tt }
@@ -38,7 +37,7 @@ returns-in-Ok-clause-next g c =
     let t = c.step.new.self in
     subst (λ x. Next remaining x (load_answer {E = FrameError} (Ok c.in-Ok.found) t) t) c.self.view_is
     (found_next remaining c.self.inside.pieces t c.in-Ok.found
-    (step_offered remaining c.self.inside.pieces t _ c.self.invariant.told c.in-Ok.ensures.next c.in-Ok.ensures.looked)
+    (step_offered remaining c.self.inside.pieces t _ c.in-Ok.ensures.next c.in-Ok.ensures.looked)
     c.in-Ok.ensures.next)
 
 pub returns-in-Ok-clause-fits : goal.returns-in-Ok-clause-fits
