@@ -19,7 +19,7 @@ Each crate is proved once at first, over a copy of what its out/ keeps, and each
 of the repository is written to, but that libraries below are built where they aren't. What was refused is kept in the crate's
 out/, and is not tried again while the edit, the crate, the libraries below it and the kit are the same; --anew tries all.
 
-With --after-ci it begins no check once checks took so many seconds of a processor, where each that goes on counts for a minute,
+With --after-ci it begins no check once checks took so many seconds of a processor, where one that goes on counts for two minutes,
 leaves out what `rt ci` tries, and takes from `rt ci` that the crates are proved and the libraries below them built: a check
 then asks for the edited functions alone, and proves what they call. It leaves out crates above a library that isn't
 built, as where `rt ci` kept it from another checkout, and names them. It begins with the edits that have a line `each time`,
@@ -322,7 +322,7 @@ class Budget:
         return said
 
     def is_left(self):
-        return not self.limit or sum(self.spent) + 60 * len(self.going) < self.limit
+        return not self.limit or sum(self.spent) + 120 * len(self.going) < self.limit
 
 
 class Refusals:
