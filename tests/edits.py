@@ -52,7 +52,7 @@ NAMES = re.compile(r"(\./)?proofs/.*(has no field|is not in scope|has no `|was n
 # What stands before a reason that an earlier run found, and before one that is no refusal by a contract.
 KEPT = "kept: "
 UNREAD = "BAD EDIT: only a proof file names what the edit took away: "
-# How many edits are drawn in one check at most.
+# How many edits are drawn in one check at most: one of all that a library has takes minutes.
 DRAWN = 6
 # What a function's line says where no proof is asked for, whatever its contract.
 UNCOVERED = "the borrow checker does not cover this function yet"
@@ -362,9 +362,9 @@ class Crate:
         self.edits = [it for it in edits if it not in self.found]
         self.groups = groups_of([it for it in self.edits if it.each_time])
         others = groups_of([it for it in self.edits if not it.each_time])
-        # A check of many functions of a library takes minutes, where few are drawn in turn.
-        most = DRAWN if self.after_ci else max(map(len, others), default=1)
-        self.groups += [it[at : at + most] for it in others for at in range(0, len(it), most)]
+        if self.after_ci:
+            others = [it[at : at + DRAWN] for it in others for at in range(0, len(it), DRAWN)]
+        self.groups += others
         self.kept = None if self.after_ci else pathlib.Path(crate.folder) / "out/incremental"
         self.begun = self.ready = self.after_ci or not self.edits
         self.idle, self.made, self.busy = [], 0, 0
