@@ -1,5 +1,5 @@
 -- What a call of a reader of pieces has done so far, turn by turn.
-use Rattle.std.proofs.Common.{◌≡◌, ℕ, ◌<◌, ◌≤◌, List, [], ◌++◌, length, Bool, true, false, refl, sym, ap, ◌∙◌, arith, inl, inr, Option, Result, Ok}
+use Rattle.std.proofs.Common.{◌≡◌, ℕ, ◌<◌, List, [], ◌++◌, length, Bool, true, false, refl, sym, ap, ◌∙◌, arith, inl, inr, Option, Result, Ok}
 use Rattle.std.specs.declared.io.Error.{Error}
 use Rattle.buffer_redux.specs.Asking.{AskedOver}
 use Rattle.buffer_redux.specs.AskingLaws.{AskedOver-on}
@@ -10,7 +10,7 @@ use Rattle.piece_reader.specs.NextPiece.{AsksGive, PiecesWent, AskedUnlessEnded,
 use Rattle.piece_reader.specs.NextPieceLaws.{AskedUnlessEnded-told, OffersMore-told}
 use Rattle.piece_reader.specs.PiecesWentLaws.{PiecesWent-none, PiecesWent-joins}
 use Rattle.piece_reader.specs.PieceReader.{ReaderState, left_of, rest}
-use Rattle.piece_reader.specs.Steps.{AsksFor}
+use Rattle.piece_reader.specs.Steps.{AsksFor, IsShortOf}
 
 -- nothing was handed out so far, and no fault and no end was met; the stream was asked only where what was there settled
 -- nothing, and each time it gave a byte
@@ -59,6 +59,9 @@ module _ {S D W : Type 0} (remaining : S → Option (List ℕ)) (g : Grammar W) 
     -- behind a header the stream was asked until so many bytes are there
     module _ (n : ℕ) (lacks : IsOpenBelow g n (rest m)) (answer : Result Bool Error) (t : ReaderState S D)
         (a : AsksFor remaining g n m answer t) where
+      abbrev short : List ℕ → Type 0
+      short = IsShortOf n m.reader.block.capacity t.reader.log.reads.offer
+
       pub went_on : PiecesWent remaining g.most s [] t
       went_on = PiecesWent-joins remaining g.most s m t [] [] h.went a.went
 
@@ -67,8 +70,7 @@ module _ {S D W : Type 0} (remaining : S → Option (List ℕ)) (g : Grammar W) 
         | inl same ↦ AskedUnlessEnded-told (IsOpen g) s m t same.1 h.asked
         | inr over ↦ inr (
           sym h.ended ∙ over.0,
-          over_then (λ bytes. (length bytes < n) × (n ≤ t.reader.log.reads.offer)) (IsOpen g) t
-              (λ more few. open_with g n (rest m) more (rest m ++ more) refl few.0 lacks) over.1,
+          over_then short (IsOpen g) t (λ more few. open_with g n (rest m) more (rest m ++ more) refl few.0 lacks) over.1,
         )
       ]
 
@@ -76,17 +78,16 @@ module _ {S D W : Type 0} (remaining : S → Option (List ℕ)) (g : Grammar W) 
       pub asked_last : s.ended ≡ false → AskedOver (IsAskedFor (rest m) n t.reader.log.reads.offer) (left_of s) (left_of t)
       asked_last going = elim a.asked [
         | inl same ↦ (let odd : true ≡ false = sym same.0 ∙ h.ended ∙ going in cc)
-        | inr over ↦ over_then (λ bytes. (length bytes < n) × (n ≤ t.reader.log.reads.offer))
-            (IsAskedFor (rest m) n t.reader.log.reads.offer) t (λ more few. (few.0, few.1, more, refl)) over.1
+        | inr over ↦ over_then short (IsAskedFor (rest m) n t.reader.log.reads.offer) t
+            (λ more few. (few.0, few.1, more, refl)) over.1
       ]
 
       pub offered_on : OffersMore s t
-      offered_on =
-          let offer = t.reader.log.reads.offer in elim a.offered [
-            | inl same ↦ OffersMore-told s m t same h.offered
-            | inr over ↦ inr (over_then (OffersOver m.reader.block.capacity offer) (OffersOver s.reader.block.capacity offer) t
-                (λ more offers. (offers.0, λ none. offers.1 none ∙ h.went.capacity)) over)
-          ]
+      offered_on = elim a.asked [
+        | inl same ↦ OffersMore-told s m t same.1 h.offered
+        | inr over ↦ inr (over_then short (OffersOver s.reader.block.capacity t.reader.log.reads.offer) t
+            (λ more few. (omega (arith, few.0, few.1), λ none. few.2 none ∙ h.went.capacity)) over.1)
+      ]
 
       -- what is there still settles nothing
       pub still_open : length (rest t) < n → IsOpen g (rest t)

@@ -13,10 +13,10 @@ use Rattle.buffer_redux.specs.MinBufferedLaws.{number_of, none_before_fault, non
 use Rattle.buffer_redux.specs.declared.policy.MinBuffered.{MinBuffered}
 use Rattle.piece_reader.specs.Grammar.{Grammar, IsOpen}
 use Rattle.buffer_redux.specs.Asking.{AskedOver}
-use Rattle.piece_reader.specs.NextPiece.{Faulted, OffersMore, OffersOver, PiecesWent}
+use Rattle.piece_reader.specs.NextPiece.{Faulted, PiecesWent}
 use Rattle.piece_reader.specs.NextPieceLaws.{MetEnd-now}
 use Rattle.piece_reader.specs.PieceReader.{ReaderState, IsPieceReader, left_of, rest}
-use Rattle.piece_reader.specs.Steps.{AsksFor}
+use Rattle.piece_reader.specs.Steps.{AsksFor, IsShortOf}
 
 -- where no byte was handed out, all that is buffered is left
 pub rest_whole : {S D : Type 0} (f : ReaderState S D) → f.handed ≡ 0 → rest f ≡ f.reader.block.bytes
@@ -262,31 +262,24 @@ module _ {S D W : Type 0} (remaining : S → Option (List ℕ)) (g : Grammar W) 
   few_asked some = asked_few (with_policy s.reader p) answer t f.fills some
       (omega (arith, number, most, whole.capacity)) whole.block whole.plain
 
-  asked_over : (Such : List ℕ → Type 0) (some : s.reader.log.reads.asks < t.log.reads.asks)
-      → Such (rest s ++ (few_asked some).came) → AskedOver Such (left_of s) (left_of filled)
-  asked_over Such some such =
-      let few = few_asked some in
-      record { came = few.came; given = few.given; such = such; some = some; asks = few.asks }
-
   there : (came : List ℕ) → rest s ++ came ≡ s.reader.block.bytes ++ came
   there came = ap (λ l. l ++ came) (rest_whole s handed)
 
   asked : s.reader.log.reads.asks < t.log.reads.asks
-      → AskedOver (λ bytes. (length bytes < n) × (n ≤ t.log.reads.offer)) (left_of s) (left_of filled)
+      → AskedOver (IsShortOf n s.reader.block.capacity t.log.reads.offer) (left_of s) (left_of filled)
   asked some =
       let few = few_asked some in
-      asked_over (λ bytes. (length bytes < n) × (n ≤ t.log.reads.offer)) some (
-        omega (arith, few.few, number, ap length (there few.came)),
-        omega (arith, few.offer, number),
-      )
-
-  offered : s.reader.log.reads.asks < t.log.reads.asks → OffersMore s filled
-  offered some =
-      let few = few_asked some in
-      inr (asked_over (OffersOver s.reader.block.capacity t.log.reads.offer) some (
-        omega (arith, few.few, few.offer, ap length (there few.came)),
-        λ none. few.whole (sym (there few.came) ∙ none),
-      ))
+      record {
+        came = few.came;
+        given = few.given;
+        such = (
+          omega (arith, few.few, number, ap length (there few.came)),
+          omega (arith, few.offer, number),
+          λ none. few.whole (sym (there few.came) ∙ none),
+        );
+        some = some;
+        asks = few.asks;
+      }
 
   left : length (rest filled) ≡ length t.block.bytes
   left = ap length (rest_whole filled handed)
@@ -305,7 +298,6 @@ module _ {S D W : Type 0} (remaining : S → Option (List ℕ)) (g : Grammar W) 
         seen = refl;
         ended = refl;
         asked = inr (not_ended, asked asking);
-        offered = offered asking;
         more = λ yes.
             let came : some ≡ true = cc in
             let many : p.0 ≤ length t.block.bytes = omega (arith, number, more came) in (
@@ -339,7 +331,6 @@ module _ {S D W : Type 0} (remaining : S → Option (List ℕ)) (g : Grammar W) 
         seen = refl;
         ended = refl;
         asked = inr (not_ended, asked asking);
-        offered = offered asking;
         more = λ other. cc;
         end = λ other. cc;
         failed = λ e' same.

@@ -1,5 +1,5 @@
 -- What one ask of the stream does where nothing is left.
-use Rattle.std.proofs.Common.{◌≡◌, ◌↔◌, ℕ, ◌<◌, ◌≤◌, List, [], ◌∷◌, ◌++◌, length, Bool, true, false, Option, Result, Ok, Err, refl, sym, ap, subst, ◌∙◌, arith, inl, inr, length-append}
+use Rattle.std.proofs.Common.{◌≡◌, ◌↔◌, ℕ, ◌<◌, List, [], ◌∷◌, ◌++◌, length, Bool, true, false, Option, Result, Ok, Err, refl, sym, ap, subst, ◌∙◌, arith, inl, inr}
 use Rattle.std.proofs.lemmas.List.{nil_from_length}
 use Rattle.std.specs.declared.io.Error.{Error}
 use Rattle.buffer_redux.specs.AskingLaws.{AskedOver-on}
@@ -8,7 +8,7 @@ use Rattle.piece_reader.specs.NextPiece.{AskedUnlessEnded, Faulted, OffersAll, P
 use Rattle.piece_reader.specs.NextPieceLaws.{AskedUnlessEnded-told, MetEnd-joins, still_going}
 use Rattle.piece_reader.specs.PiecesWentLaws.{PiecesWent-inside, PiecesWent-joins}
 use Rattle.piece_reader.specs.PieceReader.{IsPieceReader, ReaderState, left_of, rest}
-use Rattle.piece_reader.specs.Steps.{AsksFor}
+use Rattle.piece_reader.specs.Steps.{AsksFor, IsShortOf}
 use Rattle.piece_reader.proofs.Taking.{whole_as}
 use Rattle.piece_reader.proofs.Headers.{HeaderBytes, HeaderBytes-none, HeaderBytes-told}
 
@@ -34,7 +34,7 @@ module _ {S D W : Type 0} (remaining : S → Option (List ℕ)) (g : Grammar W) 
     | inl same ↦ inl (same.1 ∙ told)
     | inr over ↦ inr (
       sym ended ∙ over.0,
-      AskedOver-on (λ bytes. (length bytes < 1) × (1 ≤ t.reader.log.reads.offer)) (λ bytes. bytes ≡ []) (left_of s) (left_of m)
+      AskedOver-on (IsShortOf 1 m.reader.block.capacity t.reader.log.reads.offer) (λ bytes. bytes ≡ []) (left_of s) (left_of m)
           (left_of t) [] went.hands went.grows.asks header.asks
           (λ more few. nil_from_length (rest m ++ more) (omega (arith, few.0))) over.1,
     )
@@ -42,23 +42,11 @@ module _ {S D W : Type 0} (remaining : S → Option (List ℕ)) (g : Grammar W) 
 
   -- at each ask nothing was there
   offered_all : (answer : Result Bool Error) (t : ReaderState S D) → AsksFor remaining g 1 m answer t → OffersAll s t
-  offered_all answer t a = elim a.offered [
-    | inl same ↦ inl (same ∙ told)
-    | inr over ↦ elim a.asked [
-      | inl same ↦ inl (same.1 ∙ told)
-      | inr asked ↦ inr (over.such.1 (nil_from_length (rest m ++ over.came) (omega (
-        arith,
-        asked.1.such.0,
-        ap length asked.1.given,
-        ap length over.given,
-        length-append m.reader.log.reads.given (asked.1.came ++ t.reader.log.reads.latest),
-        length-append m.reader.log.reads.given (over.came ++ t.reader.log.reads.latest),
-        length-append asked.1.came t.reader.log.reads.latest,
-        length-append over.came t.reader.log.reads.latest,
-        length-append (rest m) asked.1.came,
-        length-append (rest m) over.came,
-      ))) ∙ went.capacity)
-    ]
+  offered_all answer t a = elim a.asked [
+    | inl same ↦ inl (same.1 ∙ told)
+    | inr over ↦
+        let few = over.1.such in
+        inr (few.2 (nil_from_length (rest m ++ over.1.came) (omega (arith, few.0))) ∙ went.capacity)
   ]
 
   -- what changes where the end alone is noted behind the answer

@@ -1,14 +1,13 @@
 -- Laws of which looks a reader of pieces makes.
 use Rattle.std.specs.Prelude.{◌≡◌, ℕ, zero, suc, List, ◌++◌, drop, length, take, false, Option}
-use Rattle.std.proofs.Common.{inl, inr, sym, subst, ◌∙◌}
+use Rattle.std.proofs.Common.{inl, inr, sym, subst}
 use Rattle.std.proofs.lemmas.List.{take-append-drop}
 use Rattle.buffer_redux.specs.Asking.{AskedWhere}
 use Rattle.buffer_redux.specs.AskingLaws.{AskedWhere-of}
-use Rattle.piece_reader.specs.declared.decoder.Found.{Found}
 use Rattle.piece_reader.specs.declared.decoder.Found.TheVariants.{Piece, More, Wrong}
 use Rattle.piece_reader.specs.Decoding.{bytes_at}
 use Rattle.piece_reader.specs.Grammar.{Grammar, IsLawful}
-use Rattle.piece_reader.specs.Looking.{IsAskedFor, LooksForMore, LooksFromLast, LooksInTurn, LookSays, LookTells}
+use Rattle.piece_reader.specs.Looking.{IsAskedFor, LooksFromLast, LooksInTurn, LookSays, LookTells}
 use Rattle.piece_reader.specs.NextPiece.{AskedUnlessEnded, NextAnswer, NextPiece}
 use Rattle.piece_reader.specs.NextPieceLaws.{NextPiece-ready, NextPiece-wrong}
 use Rattle.piece_reader.specs.PieceReader.{ReaderState, left_of, rest}

@@ -9,7 +9,7 @@ use Rattle.piece_reader.specs.declared.error.NextError.{NextError}
 use Rattle.piece_reader.specs.declared.error.NextError.TheVariants.{Wrong, Io}
 use Rattle.piece_reader.specs.Decoding.{IsPiece, bytes_at}
 use Rattle.piece_reader.specs.Grammar.{Grammar, IsOpenBelow}
-use Rattle.piece_reader.specs.NextPiece.{AsksGive, PiecesWent, NoFault, Faulted, NoEnd, MetEnd, OffersMore}
+use Rattle.piece_reader.specs.NextPiece.{AsksGive, PiecesWent, NoFault, Faulted, NoEnd, MetEnd}
 use Rattle.piece_reader.specs.PieceReader.{ReaderState, IsPieceReader, left_of, rest}
 
 -- what stands at the front of what is left was looked at, and handed out where it is a piece; or that isn't there yet
@@ -19,6 +19,10 @@ Takes g s (found.More need) t =
     (length (rest s) < need) × (need ≤ g.most) × IsOpenBelow g need (rest s) × (t ≡ record s { seen = length (rest s) })
 Takes g s (found.Wrong e) t = g.wrong (rest s) e × (t ≡ s)
 
+-- these are fewer than n bytes, and an offer has room for as many; where these are none it is the whole buffer
+abbrev pub IsShortOf : ℕ → ℕ → ℕ → List ℕ → Type 0
+IsShortOf n capacity offer bytes = (length bytes < n) × (n ≤ offer) × (bytes ≡ [] → offer ≡ capacity)
+
 -- the stream was asked until n bytes are left, unless it has ended, the last time for as many; nothing else was done
 pub record AsksFor {S D W : Type 0} (remaining : S → Option (List ℕ)) (g : Grammar W) (n : ℕ) (s : ReaderState S D)
     (answer : Result Bool Error) (t : ReaderState S D) : Type 0 where
@@ -27,8 +31,7 @@ pub record AsksFor {S D W : Type 0} (remaining : S → Option (List ℕ)) (g : G
   pub seen : t.seen ≡ s.seen
   pub ended : t.ended ≡ s.ended
   pub asked : ((s.ended ≡ true) × (t.reader.log ≡ s.reader.log))
-      ⊎ ((s.ended ≡ false) × AskedOver (λ bytes. (length bytes < n) × (n ≤ t.reader.log.reads.offer)) (left_of s) (left_of t))
-  pub offered : OffersMore s t
+      ⊎ ((s.ended ≡ false) × AskedOver (IsShortOf n s.reader.block.capacity t.reader.log.reads.offer) (left_of s) (left_of t))
   pub more : answer ≡ Ok true → (n ≤ length (rest t)) × NoEnd s t × NoFault s t
       × AsksGive s t
   pub end : answer ≡ Ok false → (length (rest t) < n) × MetEnd s t × NoFault s t

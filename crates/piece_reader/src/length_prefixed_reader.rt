@@ -17,8 +17,8 @@ use crate::reader::PieceReader;
 use buffer_redux::tell::TellRead;
 
 impl<R: TellRead, H: LengthPrefixed> PieceReader<R, ByHeader<H>> {
-    /// Lends the payload of the next piece, as [`step`](PieceReader::step) and [`lent`](PieceReader::lent) do in two calls. Once
-    /// the header is there, a read has room for all of the payload.
+    /// Lends the payload of the next piece, as [`step`](PieceReader::step) and [`lent`](PieceReader::lent) do in two calls. The
+    /// last read has room for all of the payload, once the header is there.
     #[inline(always)]
     pub fn next(&mut self) -> Result<Option<&[u8]>, NextError<HeaderError>>
         ensures fits { IfOk result (λ found. IfSome found (λ payload.
