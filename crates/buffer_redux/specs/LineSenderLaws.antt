@@ -1,6 +1,6 @@
 -- What a write, and then a send of its lines, come to, for the proofs of those who call a line sender.
 use Rattle.std.specs.Prelude.{◌≡◌, ◌⊎◌, ℕ, List, [], ◌∷◌, Result, Ok, Err, MatchResult}
-use Rattle.std.proofs.Common.{sym, subst, inl, inr, append-nil}
+use Rattle.std.proofs.Common.{subst, inl, inr, append-nil}
 use Rattle.std.proofs.lemmas.Bool.{cases_eq}
 use Rattle.std.proofs.lemmas.List.Elements.{All-cons, All-head, All-nil, All-tail}
 use Rattle.std.specs.declared.io.Error.{Error}
@@ -8,10 +8,10 @@ use Rattle.redux_buffer.specs.LogGrows.{WritesGoOn}
 use Rattle.redux_buffer.specs.StreamLog.{StreamLog}
 use Rattle.buffer_redux.specs.Policy.{WriteRules}
 use Rattle.buffer_redux.specs.Buffered.{Buffered}
-use Rattle.buffer_redux.specs.BufWriter.{AllAlong, WritesAlong}
+use Rattle.buffer_redux.specs.BufWriter.{AllAlong}
 use Rattle.buffer_redux.specs.LineWriter.{SendsLines, ThenSendsLines}
 use Rattle.buffer_redux.specs.ReadUntil.{Lacks}
-use Rattle.buffer_redux.specs.WritesAlongLaws.{AllAlong-after, WasSent-along, WasSent-all, WritesAlong-none}
+use Rattle.buffer_redux.specs.WritesAlongLaws.{AllAlong-after, WasSent-all, WritesAlong-none}
 
 -- a line feed is among the bytes, or not
 pub lacks_or : (bytes : List ℕ) → Lacks 10 bytes ⊎ ¬ (Lacks 10 bytes)
@@ -28,14 +28,6 @@ module _ {S P : Type 0} (tells : S → StreamLog) (trace : S → S → Type 0) (
     (joins : (u v w : S) → trace u v → trace v w → trace u w)
     (goes : (u v : S) → trace u v → WritesGoOn (tells u) (tells v)) where
   -- of a send of lines alone
-  pub SendsLines-along : (m : Buffered S P) (answer : Result (Unit {0}) Error) (t : Buffered S P)
-      → SendsLines tells trace m answer t → WritesAlong tells trace rules m [] t
-  SendsLines-along m answer t sends = elim (lacks_or m.block.bytes) [
-    | inl nothing ↦ subst (λ u. WritesAlong tells trace rules m [] u) (sym (sends.none nothing).1)
-        (WritesAlong-none tells trace rules none m)
-    | inr some ↦ WasSent-along tells trace rules goes m answer t (sends.some some)
-  ]
-
   pub SendsLines-all : (m : Buffered S P) (answer : Result (Unit {0}) Error) (t : Buffered S P)
       → SendsLines tells trace m answer t → AllAlong tells trace rules m [] answer t
   SendsLines-all m answer t sends = elim (lacks_or m.block.bytes) [

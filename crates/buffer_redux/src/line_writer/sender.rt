@@ -22,10 +22,10 @@ use std::marker::Model;
 /// A [`LineWriter`] whose `write_all`, `write!` and `writeln!` return the fault of a line's send, as those of std's
 /// `LineWriter` do.
 ///
-/// After an `Ok` the inner writer has received all up to the last line feed. A send that failed is made once more, and the
-/// fault of that is returned: then all was accepted, or a beginning of it, and what wasn't sent stays buffered. So `flush`
-/// goes on with it, and who writes the same again has its beginning twice. `write` alone forgets the fault, as that of a
-/// `LineWriter`; the next of the others meets it.
+/// After an `Ok` the inner writer has received all up to the last line feed. A send that failed behind the bytes is made once
+/// more, and the fault of that is returned: then all was accepted, or a beginning of it, and what wasn't sent stays buffered.
+/// So `flush` goes on with it, and who writes the same again has its beginning twice. `write` alone forgets the fault, as that
+/// of a `LineWriter`; the next of the others meets it.
 ///
 /// ```
 /// let fault = Answer::Fail(ErrorKind::StorageFull);

@@ -1,5 +1,5 @@
 //! Streams in memory, which hand on what std says of a slice and of a vector alone: why a call of them fails.
-ghost use Rattle.std.specs.Prelude.{◌≡◌, Ok, Some, [], length, min, vec_items, IfErr, IfOk, IsOk};
+ghost use Rattle.std.specs.Prelude.{◌≡◌, ◌+◌, ◌<◌, Ok, Some, [], length, min, vec_items, IfErr, IfOk, IsOk, OnErr};
 ghost use Rattle.std.specs.Io.{ReadsAtMost, WritesAtMost};
 ghost use Rattle.std.specs.Io.KnownBytes.{ReadConsumes};
 ghost use Rattle.std.specs.List.{All};
@@ -57,7 +57,7 @@ impl TellRead for MemoryReader<'_> {
 }
 
 /// Writes behind the bytes of a vector, which is empty at first, and tells of the calls. A write fails for want of memory
-/// alone.
+/// alone, where the vector has no room for it.
 pub struct MemoryWriter {
     bytes: Vec<u8>,
     calls: CallLog,
@@ -94,7 +94,7 @@ impl Tell for MemoryWriter {
 }
 
 impl TellWrite for MemoryWriter {
-    ghost use Rattle.redux_buffer.specs.Memory.{writer_log};
+    ghost use Rattle.redux_buffer.specs.Memory.{room_held, writer_log};
 
     ghost trace = { λ s t. WriteLogGrows s.calls.log.writes t.calls.log.writes };
 
@@ -103,8 +103,12 @@ impl TellWrite for MemoryWriter {
         ensures told { writer_log self.new ≡ after_write (writer_log self.old) buf.now result }
         ensures count { IfOk result (λ n. n ≡ length buf.now) }
         ensures memory { IfErr result IsMemory }
+        ensures full { OnErr result (room_held self.old < length (writer_log self.old).writes.received + length buf.now) }
     {
-        let answer = self.bytes.write(buf);
+        let answer = match self.bytes.extend_from_slice(buf) {
+            Ok(()) => Ok(buf.len()),
+            Err(e) => Err(io::Error::from(e)),
+        };
         self.calls.note(&Call::Write(buf, &answer));
         answer
     }
