@@ -62,6 +62,8 @@ pub fn fetch_item<R: TellRead, D: Items, W: TellWrite, P: WriterPolicy>(
 ) -> io::Result<Result<Option<(D::Item, Span)>, NextError<D::Wrong>>>
     ensures lends { IfOk result (λ answer. IfOk answer (λ found. IfSome found (λ said.
         IsLent (D.grammar reader.new.decoder) reader.new.handed reader.new.reader.block.bytes said.1))) }
+    ensures looked { OnOk result (LooksToFetch (LookSays D.grammar D.looks) (D.grammar reader.old.decoder) reader.old
+        reader.new) }
     ensures next { IfOk result (λ answer. NextItem R.remaining (D.grammar reader.old.decoder)
         (D.item_of reader.old.decoder) reader.old answer reader.new) }
     ensures first { FlushedFirst W.log W.trace (D.grammar reader.old.decoder) reader.old writer.old result

@@ -5,6 +5,7 @@ ghost use Rattle.piece_reader.specs.declared.error.NextError.TheVariants.{Io};
 ghost use Rattle.piece_reader.specs.KnownPayloads.{AnswersKnown};
 ghost use Rattle.piece_reader.specs.KnownPieces.{HasLeft};
 ghost use Rattle.piece_reader.specs.KnownPiecesLaws.{NextPiece-answers};
+ghost use Rattle.piece_reader.specs.Looking.{LooksFromLast, LookSays};
 ghost use Rattle.piece_reader.specs.NextPiece.{NextPiece};
 ghost use Rattle.piece_reader.specs.Runs.{AnswerPlays, NextLost, RunWent, kept_answer};
 ghost use Rattle.piece_reader.specs.RunsLaws.{NextPlays-more, NextPlays-none};
@@ -78,7 +79,12 @@ impl<R: TellRead, D: Decoder> PayloadReader for PieceReader<R, D> {
     fn next_copied(
         &mut self,
         alloc: Global,
-    ) -> Result<Result<Option<Vec<u8>>, NextError<D::Wrong>>, AllocError> {
+    ) -> Result<Result<Option<Vec<u8>>, NextError<D::Wrong>>, AllocError>
+        ensures next { IfOk result (λ answer. NextPiece R.remaining (D.grammar self.old.decoder) self.old
+            (kept_answer answer) self.new) }
+        ensures lost { OnErr result (NextLost (λ s. NextPiece R.remaining (D.grammar s.decoder) s) self.old self.new) }
+        ensures looked { LooksFromLast (LookSays D.grammar D.looks) self.old self.new }
+    {
         match self.step() {
             Ok(Some(span)) => Ok(Ok(Some(Vec::from_slice(alloc, self.lent(span))?))),
             Ok(None) => Ok(Ok(None)),

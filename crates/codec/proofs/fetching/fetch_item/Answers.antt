@@ -1,5 +1,5 @@
 -- A look alone hands nothing out, so a step behind the look and the flush is the step that it would have been.
-use Rattle.std.proofs.Common.{ap, subst}
+use Rattle.std.proofs.Common.{ap, inr, subst}
 use Rattle.piece_reader.specs.Items.{NextItem}
 use Rattle.piece_reader.specs.NextPiece.{StaysLeft}
 use Rattle.piece_reader.specs.StaysLeftLaws.{StaysLeft-item}
@@ -15,6 +15,12 @@ returns-in-Ok-clause-next g c =
     StaysLeft-item g.R.TellRead.remaining gram s m stays (g.D.Items.item_of s.decoder) c.step_item.new.self c.step_item.result
     (subst (λ d. NextItem g.R.TellRead.remaining (g.D.Decoder.grammar d) (g.D.Items.item_of d) m c.step_item.result
     c.step_item.new.self) (ap (λ x. x.decoder) stays.same) c.step_item.ensures.next)
+
+pub returns-in-Ok-clause-looked : goal.returns-in-Ok-clause-looked
+returns-in-Ok-clause-looked g c = (
+  c.step_item_buffered.ensures.looked,
+  inr (c.step_item_buffered.new.self, c.in_default.ensures.stays, c.step_item.ensures.looked),
+)
 
 pub returns-in-Ok-clause-first : goal.returns-in-Ok-clause-first
 returns-in-Ok-clause-first g c =
