@@ -47,6 +47,7 @@ module _ {S Q C P W A : Type 0} (remaining : S → Option (List ℕ)) (rules : R
           asked = AskedWhere-of (λ bytes. length bytes < 1) (λ bytes. bytes ≡ []) (unbuffered r) (unbuffered r')
               (λ more few. nil_from_length (r.block.bytes ++ more) (omega (arith, few))) (ReadsAhead-asked ahead);
           offer = elim ahead.asked [ inl same ↦ inl same | inr over ↦ inr over.offer ];
+          policy = ahead.policy;
           still = refl;
           whole = state_is takes (sym (append-nil calls.reads.given)) is
               (known_more g p.place k r.block.bytes order.got r'.block.bytes order.equal is.known);

@@ -233,6 +233,7 @@ module _ {S Q C P W : Type 0} (remaining : S → Option (List ℕ)) (rules : Rea
         (λ e. (t.reader.block.bytes ≡ []) × FaultedOnce s.reader e t.reader)
     pub asked : AskedWhere (λ bytes. bytes ≡ []) (unbuffered s.reader) (unbuffered t.reader)
     pub offer : (t.reader.log ≡ s.reader.log) ⊎ OfferedAll t.reader
+    pub policy : t.reader.policy ≡ s.reader.policy
     pub still : t ≡ record s { reader = t.reader }
     pub whole : IsBodyReader g t
 
