@@ -58,7 +58,8 @@ pub enum Served {
 pub enum ServeError<W, F> {
     /// The stream of pieces failed. All answers were received and flushed, and [`serve`] may be called again.
     Read(io::Error),
-    /// The stream of answers failed. The piece that was taken last, if any was, is done, and its answer may be missing.
+    /// The stream of answers failed, or room for an answer was refused. The piece that was taken last, if any was, is done, and
+    /// its answer may be missing.
     Write(io::Error),
     /// The last flush failed, behind this end: no further piece is to be taken where it is [`Served::Closed`].
     Flush(Served, io::Error),

@@ -137,7 +137,7 @@ impl<W: TellWrite, E: Encoder> PieceWriter<W, E> {
     }
 
     /// Takes the payload's piece in. It is sent where a later piece finds no room, by [`send`](PieceWriter::send) and
-    /// [`flush`](PieceWriter::flush), and where the writer is unwrapped or dropped.
+    /// [`flush`](PieceWriter::flush), by `into_inner`, and where the writer is dropped.
     ///
     /// At an `Err` nothing of the piece was taken in, so the call can be made again. A `Refused` changes nothing at all; an `Io`
     /// comes only where the piece found no room, and then just what the inner writer took is gone from the buffer.

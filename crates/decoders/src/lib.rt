@@ -1,4 +1,4 @@
-//! Decoders that are ready, and encoders: pieces whose payload has its length in front, in bytes or in text.
+//! Decoders that are ready, and encoders: pieces whose payload has its length in front, in bytes or in text, and those of RESP.
 //!
 //! A length above the greatest is refused before the payload is waited for, and before anything is added to the length.
 #![tactic(auto)]

@@ -117,7 +117,7 @@ impl<W: TellWrite> FrameWriter<W> {
     }
 
     /// Takes the payload's frame in. It is sent where a later frame finds no room, by [`send`](FrameWriter::send) and
-    /// [`flush`](FrameWriter::flush), and where the writer is unwrapped or dropped.
+    /// [`flush`](FrameWriter::flush), by `into_inner`, and where the writer is dropped.
     ///
     /// At an `Err` nothing of the frame was taken in, so the call can be made again. A `TooLong` changes nothing at all; an
     /// `Io` comes only where the frame found no room, and then just what the inner writer took is gone from the buffer.

@@ -296,7 +296,7 @@ impl<R: TellRead> LineReader<R> {
     }
 
     /// Lends the next line as [`next`](LineReader::next) does where it stands whole in the buffer, and asks the stream for
-    /// nothing. `None` where it doesn't; what was searched then isn't searched again.
+    /// nothing. `None` where it doesn't; what was searched then isn't searched again, unless a line is too long.
     #[inline(always)]
     pub fn next_buffered(&mut self) -> Option<&[u8]>
         ensures front { IfSome result (λ line. (more : List ℕ) × (rest self.old.pieces ≡ line.now ++ 10 ∷ more)) }

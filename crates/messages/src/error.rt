@@ -15,7 +15,7 @@ pub enum BodyError {
     /// The stream ended within the body: it was asked, and gave nothing. Of a body of a length so many bytes were still due; of
     /// one in chunks that isn't known.
     Truncated(Option<u64>),
-    /// The stream failed. The call can be made again.
+    /// The stream failed, and the call can be made again; or, of the kind `Other`, a body has more pieces than a `u64` counts.
     Io(io::Error),
 }
 

@@ -1,7 +1,8 @@
 //! Requests of HTTP/1.1 in a stream (RFC 9112): a head, its body, the next head.
 //!
-//! [`Requests`] stands before a head, and `next` goes on into the body; a [`Body`] stands in one, and its `finish` goes on to
-//! the next head. No other call goes from one to the other, so no byte of a body is taken for a head, also after an `Err`.
+//! [`Requests`] stands before a head, and `next` or `next_buffered` goes on into the body; a [`Body`] stands in one, and its
+//! `finish` goes on to the next head. No other call goes from one to the other, so no byte of a body is taken for a head, also
+//! after an `Err`.
 #![tactic(auto)]
 
 mod bad_head;

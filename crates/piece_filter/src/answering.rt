@@ -36,7 +36,7 @@ pub struct Answering<R: TellRead, D: Decoder, W: TellWrite, S: Answer> {
     pub source: PieceReader<R, D>,
     pub target: BufWriter<W>,
     pub service: S,
-    /// A payload that was asked for, until it is answered.
+    /// A payload that was found, until it is answered.
     pub held: Option<Span>,
     /// Whether nothing was written since all was flushed.
     pub sent: bool,

@@ -263,7 +263,7 @@ impl<R: Tell, D: Decoder> PieceReader<R, D> {
         &self.reader.buffer()[span.from..span.from + span.len]
     }
 
-    /// How many of the bytes that are left were looked at and settle nothing, so that the next look begins behind them.
+    /// How many of the bytes that are left were looked at and settle nothing. The next look is told so.
     #[inline(always)]
     pub fn looked(&self) -> usize
         ensures value { result ≡ self.now.seen }
