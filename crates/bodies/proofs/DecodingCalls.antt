@@ -64,7 +64,8 @@ module _ {R W : Type 0} (remaining : R → Option (List ℕ)) {s : Decoding R W}
     not_written e takes =
         let wrote = rw held.still at (TakesAll-not_passed u.target v 0 0 {Other = λ _. ⊥} takes same (λ no. no)) in
         let order = rw held.still at takes.taken in
-        let hands = hands_held remaining s (record u { target = v }) held.hands.payload held.hands.went held.hands.order in
+        let hands = hands_held remaining s (record u { target = v }) held.hands.payload held.hands.went held.hands.order
+        held.hands.room in
         let answers : PassAnswers decoding s (Err e) (record u { target = v }) = ([], search rules, omega arith) in
         search rules
 
@@ -100,7 +101,7 @@ module _ {R W : Type 0} (remaining : R → Option (List ℕ)) {s : Decoding R W}
     asks_so t n most went whole over once answer answers =
         let refilled = with_items_is s.piece out (len ∙ sym s.piece.ok.0) in
         let hands = hands_held remaining s (asked t n) (take n out) went
-        (ap (λ l. l ++ take n out) (none_held remaining s none) ∙ sym (ap (λ l. take n l) refilled)) in
+        (ap (λ l. l ++ take n out) (none_held remaining s none) ∙ sym (ap (λ l. take n l) refilled)) refl in
         let order = WritesInOrder-none s.target in
         let looks : OnErr answer (Unit {0}) = elim answer as (λ a. OnErr a (Unit {0})) [ Ok more ↦ tt | Err why ↦ tt ] in
         search rules

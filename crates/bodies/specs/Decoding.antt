@@ -1,5 +1,5 @@
 -- A filter that hands out the payload of a body.
-use Rattle.std.specs.Prelude.{◌≡◌, ℕ, ◌-◌, ◌^◌, ◌<◌, ◌≤◌, ◌⊎◌, if◌then◌else◌, nat_lt, List, [], ◌++◌, length, take, Bool, true, false, Result, Ok, Err, Option}
+use Rattle.std.specs.Prelude.{◌≡◌, ℕ, ◌-◌, ◌^◌, ◌<◌, ◌≤◌, ◌⊎◌, if◌then◌else◌, nat_lt, List, [], ◌++◌, length, take, Bool, true, false, Result, Ok, Err, Option, vec_capacity}
 use Rattle.body_reader.specs.declared.error.BodyError.TheVariants as body
 use Rattle.chunked.specs.Place.{most_between}
 use Rattle.forward.specs.declared.error.AskError.TheVariants.{Wrong}
@@ -34,13 +34,15 @@ pub record MayDecode {R W : Type 0} (s : Decoding R W) : Type 0 where
   pub room : length s.piece.items ≡ 16384
   pub held : s.held ≤ 16384
 
--- these pieces are what was held, then what was handed out, but for what is held still; and none is empty
+-- these pieces are what was held, then what was handed out, but for what is held still; and none is empty. What holds them takes
+-- no more room
 pub record HandsPayloadPieces {R W : Type 0} (remaining : R → Option (List ℕ)) (s : Decoding R W) (pieces : List (List ℕ))
     (t : Decoding R W) : Type 0 where
   pub payload : List ℕ
   pub went : BodyWent remaining std_read_rules (chunked s.source.coding.0) s.source payload t.source
   pub order : held_payload s ++ payload ≡ concat pieces ++ held_payload t
   pub some : All (λ piece. 0 < length piece) pieces
+  pub room : vec_capacity t.piece ≡ vec_capacity s.piece
 
 -- just these pieces were taken in, by a buffer that kept its size
 pub record TakesPayload {W : Type 0} (u : Buffered W StdPolicy) (pieces : List (List ℕ)) (v : Buffered W StdPolicy) : Type 0

@@ -1,5 +1,6 @@
 -- The payload of a body is handed out in order, and what is due is sent with it.
 use Rattle.std.proofs.Common.{◌≡◌, ℕ, ◌<◌, inl, inr, List, [], ◌++◌, length, take, Option, Result, Ok, Err, refl, sym, ap, subst, ◌∙◌, arith, append-nil, append_assoc}
+use Rattle.std.specs.Prelude.{vec_capacity}
 use Rattle.bodies.specs.Words.{std_read_rules, BodyWent, chunked, handed_of, AsksSent, FilterRules, NeverGaveNothing, IsLawful, Moves, StaysOpen, AllSent, sent_all, taken_more, InputFault, concat, concat-append, All-append, All-nil, WritesInOrder-joins, WritesInOrder-none, BodyWent-joins, BodyWent-none, Decoding}
 use Rattle.bodies.specs.Decode.{IsDue}
 use Rattle.bodies.specs.Filters.{asked_after}
@@ -13,12 +14,13 @@ module _ {R W : Type 0} (remaining : R → Option (List ℕ)) where
   -- what was handed out is held, behind what was
   pub hands_held : (s t : Decoding R W) (payload : List ℕ)
       → BodyWent remaining std_read_rules (chunked s.source.coding.0) s.source payload t.source
-      → held_payload s ++ payload ≡ held_payload t → HandsPayloadPieces remaining s [] t
-  hands_held s t payload went order =
-      record { payload = payload; went = went; order = order; some = All-nil (λ piece. 0 < length piece) }
+      → held_payload s ++ payload ≡ held_payload t → vec_capacity t.piece ≡ vec_capacity s.piece
+      → HandsPayloadPieces remaining s [] t
+  hands_held s t payload went order room =
+      record { payload = payload; went = went; order = order; some = All-nil (λ piece. 0 < length piece); room = room }
 
   pub hands_none : (s t : Decoding R W) → t.source ≡ s.source → held_payload s ≡ held_payload t
-      → HandsPayloadPieces remaining s [] t
+      → vec_capacity t.piece ≡ vec_capacity s.piece → HandsPayloadPieces remaining s [] t
   hands_none s t same held = hands_held s t []
       (rw same (BodyWent-none remaining std_read_rules (chunked s.source.coding.0) s.source)) (append-nil (held_payload s) ∙ held)
 
@@ -32,6 +34,7 @@ module _ {R W : Type 0} (remaining : R → Option (List ℕ)) where
     order = sym (append_assoc (held_payload a) f.payload g.payload)
         ∙ rw (f.order, append_assoc (concat p) (held_payload b) g.payload, g.order, concat-append, append_assoc) refl;
     some = All-append (λ piece. 0 < length piece) p q f.some g.some;
+    room = g.room ∙ f.room;
   }
 
   takes_joins : (a b c : Decoding R W) (p q : List (List ℕ)) → TakesPayload a.target p b.target → TakesPayload b.target q c.target
@@ -81,7 +84,7 @@ module _ {R W : Type 0} (remaining : R → Option (List ℕ)) where
 
   pub decoding_lawful : IsLawful (decoding_rules {R = R} {W = W} remaining)
   decoding_lawful = record {
-    hands_none = λ s. hands_none s s refl refl;
+    hands_none = λ s. hands_none s s refl refl refl;
     hands_joins = hands_joins;
     takes_none = λ s. record { in_order = WritesInOrder-none s.target; room = refl };
     takes_joins = takes_joins;

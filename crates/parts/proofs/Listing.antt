@@ -6,13 +6,14 @@ use Rattle.body_reader.specs.BodyReader.{handed_of}
 use Rattle.multipart.specs.Multipart.{FormState}
 use Rattle.parts.specs.declared.error.RunError.{RunError}
 use Rattle.parts.specs.declared.error.RunError.TheVariants as Run
-use Rattle.parts.proofs.Meeting.{all_met, met_on}
+use Rattle.parts.proofs.Meeting.{GaveUpOften, all_met, met_on, often_on}
 use Rattle.parts.proofs.Parts.{PartsSoFar, all_handed, fails_on, still_inside}
 use Rattle.std.specs.declared.io.Error.{Error}
 use Rattle.buffer_redux.specs.Buffered.{Buffered}
 use Rattle.buffer_redux.specs.Policy.{std_write_rules}
 use Rattle.buffer_redux.specs.StreamLog.{StreamLog}
 use Rattle.buffer_redux.specs.WriteAll.{WritesAll}
+use Rattle.buffer_redux.specs.WriterTells.{LeavesCapacity-std}
 use Rattle.buffer_redux.specs.WritesAlongLaws.{AllAlong-after, StoppedAlong-more, WritesAll-all, WritesAlong-none}
 use Rattle.buffer_redux.specs.declared.policy.StdPolicy.{StdPolicy}
 use Rattle.parts.specs.Sections.{LeavesNext, ListAnswers, ListEnds, PutsBytes, PutsWanted, TakesText, Turn, list_line, list_lines}
@@ -20,18 +21,22 @@ use Rattle.parts.specs.Sections.{LeavesNext, ListAnswers, ListEnds, PutsBytes, P
 module _ {T : Type 0} (tells : T → StreamLog) (trace : T → T → Type 0) where
   -- a write of all of a slice
   pub puts_all : (u : Buffered T StdPolicy) (bytes : List ℕ) (answer : Result (Unit {0}) Error) (v : Buffered T StdPolicy)
-      → WritesAll tells trace std_write_rules u bytes answer v → PutsBytes tells trace u bytes answer v
-  puts_all u bytes answer v all = record {
+      → WritesAll tells trace std_write_rules u bytes answer v → GaveUpOften u answer v → PutsBytes tells trace u bytes answer v
+  puts_all u bytes answer v all often = record {
     all = WritesAll-all tells trace std_write_rules u bytes answer v all refl;
     met = all_met tells trace u bytes answer v all;
+    often = often;
     unflushed = all.front.keeps.flushes;
+    room = all.front.keeps.same_capacity LeavesCapacity-std;
   }
 
   pub puts_none : ((x : T) → trace x x) → (u : Buffered T StdPolicy) → PutsBytes tells trace u [] (Ok tt) u
   puts_none none u = record {
     all = WritesAlong-none tells trace std_write_rules none u;
     met = MetInterrupts-none u.log.writes;
+    often = tt;
     unflushed = refl;
+    room = refl;
   }
 
   -- and some more
@@ -41,7 +46,9 @@ module _ {T : Type 0} (tells : T → StreamLog) (trace : T → T → Type 0) whe
   puts_then joins u m v said more answer p q = record {
     all = AllAlong-after tells trace std_write_rules joins u m v said more answer p.all q.all;
     met = met_on u m v answer p.met q.met;
+    often = often_on u m v answer p.met q.often;
     unflushed = q.unflushed ∙ p.unflushed;
+    room = q.room ∙ p.room;
   }
 
   -- or none, where that failed
@@ -50,7 +57,9 @@ module _ {T : Type 0} (tells : T → StreamLog) (trace : T → T → Type 0) whe
   puts_no_more u v said more e p = record {
     all = StoppedAlong-more tells trace std_write_rules u v said more e p.all;
     met = tt;
+    often = p.often;
     unflushed = p.unflushed;
+    room = p.room;
   }
 
   -- the same of what may be wanted

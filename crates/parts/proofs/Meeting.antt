@@ -1,7 +1,8 @@
--- A write of all of a slice that went well met no fault of the writer but interrupts.
-use Rattle.std.proofs.Common.{ℕ, List, Result, Ok, Err, OnOk}
+-- What the writes of some texts, one behind another, met of faults.
+use Rattle.std.proofs.Common.{ℕ, List, Result, Ok, Err, IfErr, OnOk, ap, arith, length, length-append}
+use Rattle.std.proofs.lemmas.Result.{IfErr-weaker}
 use Rattle.std.specs.declared.io.Error.{Error}
-use Rattle.redux_buffer.specs.Faults.{MetInterrupts, MetInterrupts-joins}
+use Rattle.redux_buffer.specs.Faults.{FaultsOften, IsInterrupt, MetInterrupts, MetInterrupts-joins}
 use Rattle.buffer_redux.specs.Buffered.{Buffered}
 use Rattle.buffer_redux.specs.Policy.{std_write_rules}
 use Rattle.buffer_redux.specs.StreamLog.{StreamLog}
@@ -24,3 +25,15 @@ module _ {S : Type 0} where
       → OnOk answer (Met u v)
   met_on u m v (Ok x) p q = MetInterrupts-joins u.log.writes m.log.writes v.log.writes p q
   met_on u m v (Err e) p q = tt
+
+  abbrev pub GaveUpOften : Buffered S StdPolicy → Result (Unit {0}) Error → Buffered S StdPolicy → Type 0
+  GaveUpOften s answer t = IfErr answer (λ e. IsInterrupt e → FaultsOften s.log.writes t.log.writes)
+
+  pub often_on : (u m v : Buffered S StdPolicy) (answer : Result (Unit {0}) Error) → Met u m → GaveUpOften m answer v
+      → GaveUpOften u answer v
+  often_on u m v answer met often = IfErr-weaker answer _ _ (λ e so is. omega (
+    arith,
+    so is,
+    ap length met.only.faults,
+    length-append u.log.writes.faults met.interrupts,
+  )) often

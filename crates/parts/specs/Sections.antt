@@ -4,10 +4,10 @@ use Rattle.std.specs.declared.io.Error.{Error}
 use Rattle.std.specs.declared.io.ErrorKind.TheVariants.{Other}
 use Rattle.multipart.specs.declared.error.PartError.{PartError}
 use Rattle.multipart.specs.declared.error.PartError.TheVariants as part
-use Rattle.std.specs.Prelude.{◌≡◌, ◌≢◌, ℕ, ◌^◌, ◌+◌, ◌-◌, ◌<◌, ◌≤◌, ◌⊎◌, List, [], ◌∷◌, ◌++◌, length, min, take, All, codes as text_codes, decimal, if◌then◌else◌, map, unwrap_or, Bool, true, false, Option, Some, Result, Ok, Err, IfOk, MatchResult, OnOk}
+use Rattle.std.specs.Prelude.{◌≡◌, ◌≢◌, ℕ, ◌^◌, ◌+◌, ◌-◌, ◌<◌, ◌≤◌, ◌⊎◌, List, [], ◌∷◌, ◌++◌, length, min, take, All, codes as text_codes, decimal, if◌then◌else◌, map, unwrap_or, Bool, true, false, Option, Some, Result, Ok, Err, IfErr, IfOk, MatchResult, OnOk}
 use Rattle.std.specs.Char.{is_ascii_control}
 use Rattle.std.specs.Option.{option_and_then}
-use Rattle.redux_buffer.specs.Faults.{MetInterrupts}
+use Rattle.redux_buffer.specs.Faults.{FaultsOften, IsInterrupt, MetInterrupts}
 use Rattle.body_reader.specs.Between.{EachGave, FaultedOnce, GaveNothingOnce}
 use Rattle.body_reader.specs.BodyReader.{BodyWent, EndsEarly, IsBodyReader, NoPayload, TookWholeBody, handed_of}
 use Rattle.body_reader.specs.Coding.{IsBody}
@@ -150,13 +150,15 @@ NoneBegins s turns text Many t = InTurns s turns t × EachGave s.body.reader t.b
 NoneBegins s turns text why t = ⊥
 
 module _ {T : Type 0} (tells : T → StreamLog) (trace : T → T → Type 0) where
-  -- this was accepted, and no write failed but that some were interrupted; or a beginning of it before the writer failed. The
-  -- writer wasn't flushed
+  -- this was accepted, and no write failed but that some were interrupted; or a beginning of it before the writer failed, by an
+  -- interrupted write only where it had faults that often. The writer wasn't flushed, and takes no more room
   pub record PutsBytes (u : Buffered T StdPolicy) (said : List ℕ) (answer : Result (Unit {0}) Error) (v : Buffered T StdPolicy)
       : Type 0 where
     pub all : AllAlong tells trace std_write_rules u said answer v
     pub met : OnOk answer (MetInterrupts u.log.writes v.log.writes)
+    pub often : IfErr answer (λ e. IsInterrupt e → FaultsOften u.log.writes v.log.writes)
     pub unflushed : v.log.writes.flushes ≡ u.log.writes.flushes
+    pub room : v.block.capacity ≡ u.block.capacity
 
   -- that, if it is wanted; else the writer wasn't called
   abbrev pub PutsWanted : Bool → Buffered T StdPolicy → List ℕ → Result (Unit {0}) Error → Buffered T StdPolicy → Type 0

@@ -1,4 +1,5 @@
 -- One text behind another.
+use Rattle.std.proofs.Common.{refl}
 use Rattle.std.proofs.lemmas.Result.{err_from_is_err_and}
 use Rattle.parts.proofs.Listing.{puts_all, puts_no_more, puts_then}
 use Rattle.parts.proofs.list.put_line.Goals as goal
@@ -40,7 +41,8 @@ returns-in_err-write_all g c =
     let kind = rw c.field.ensures.value at c.in_ok-put_or-3.ensures in
     let len = rw (c.as_bytes.ensures.value, c.format.ensures.text) at c.in_err-write_all.ensures.steps in
     rw (p.1, p.2) (puts_then log trace joins _ _ _ _ _ _ name (puts_then log trace joins _ _ _ _ _ _ file
-    (puts_then log trace joins _ _ _ _ _ _ kind (puts_no_more log trace _ _ _ _ _ (puts_all log trace _ _ _ _ len)))))
+    (puts_then log trace joins _ _ _ _ _ _ kind (puts_no_more log trace _ _ _ _ _
+    (puts_all log trace _ _ _ _ len (c.in_err-write_all.ensures.often refl))))))
 
 pub returns : goal.returns
 returns g c =
@@ -52,5 +54,5 @@ returns g c =
     let kind = rw c.field.ensures.value at c.in_ok-put_or-3.ensures in
     let len = rw (c.as_bytes.ensures.value, c.format.ensures.text) at c.in_ok-write_all.ensures.steps in
     puts_then log trace joins _ _ _ _ _ _ name (puts_then log trace joins _ _ _ _ _ _ file
-    (puts_then log trace joins _ _ _ _ _ _ kind (puts_then log trace joins _ _ _ _ _ _ (puts_all log trace _ _ _ _ len)
-    (puts_all log trace _ _ _ _ c.write_all-2.ensures.steps))))
+    (puts_then log trace joins _ _ _ _ _ _ kind (puts_then log trace joins _ _ _ _ _ _ (puts_all log trace _ _ _ _ len tt)
+    (puts_all log trace _ _ _ _ c.write_all-2.ensures.steps (c.write_all-2.ensures.often refl)))))
