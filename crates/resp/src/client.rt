@@ -58,8 +58,8 @@ pub enum Ending {
 impl<R: Tell> Client<R> {
     /// A client of which nothing came yet. A refusal hands `stream` back.
     pub fn new(alloc: Global, stream: R) -> Result<Self, MakeError<R>>
-        ensures fresh { IfOk result (λ c. IsFresh R.log 8192 (resp MAX_PART).most stream (pieces_of c).decoder (pieces_of c)) }
-        ensures takes { IfOk result (λ c. (pieces_of c).decoder.max ≡ MAX_PART) }
+        ensures fresh { IfOk result (λ c. IsFresh R.log 8192 (resp 65536).most stream (pieces_of c).decoder (pieces_of c)) }
+        ensures takes { IfOk result (λ c. (pieces_of c).decoder.max ≡ 65536) }
         ensures none { IfOk result (λ c. begun_of c ≡ nothing) }
         ensures open { IfOk result (λ c. closed_of c ≡ false) }
         ensures handed_back { IfErr result (λ e. e.0 ≡ stream) }

@@ -3,10 +3,8 @@
 //! ends within a request.
 #![tactic(auto)]
 
-ghost use Rattle.std.specs.Prelude.{◌≡◌, [], IfOk, OnOk};
-ghost use Rattle.buffer_redux.specs.BufWriter.{AllFlushed};
-ghost use Rattle.buffer_redux.specs.Policy.{std_write_rules};
-ghost use Rattle.resp_server.specs.Server.{ServesOnce, tells_within, was_cut_off};
+ghost use Rattle.std.specs.Prelude.{◌≡◌, [], OnOk};
+ghost use Rattle.resp_server.specs.Server.{ServesOnce, TellsLine, tells_within, was_cut_off};
 
 use buffer_redux::BufWriter;
 use buffer_redux::tell::{TellRead, TellWrite, Told};
@@ -23,8 +21,8 @@ fn serve<R: TellRead, W: TellWrite>(
     replies: &mut BufWriter<W>,
 ) -> io::Result<bool>
     ensures sent { OnOk result (replies.new.block.bytes ≡ []) }
-    ensures serves { ServesOnce R.remaining W.log W.trace PROTOCOL_ERROR.now client.old store.old replies.old result client.new
-        store.new replies.new }
+    ensures serves { ServesOnce R.remaining W.log W.trace client.old store.old replies.old result client.new store.new
+        replies.new }
 {
     match client.serve(store, replies) {
         Ok(ending) => Ok(is_within(ending)),
@@ -61,8 +59,7 @@ fn is_cut_off(wrong: &EitherWrong<HeaderError, Unended<TooLong>>) -> bool
 
 // Sends these bytes behind all others, and answers as it is told to.
 fn tell<W: TellWrite>(replies: &mut BufWriter<W>, line: &[u8], answer: bool) -> io::Result<bool>
-    ensures answer { IfOk result (λ said. said ≡ answer) }
-    ensures all { AllFlushed W.log W.trace std_write_rules replies.old line.now result replies.new }
+    ensures { TellsLine W.log W.trace line.now answer replies.old result replies.new }
 {
     replies.write_all(line)?;
     replies.flush()?;

@@ -32,7 +32,7 @@ returns-then-is_cut_off-clause-serves g c = record {
   answer = Err (Wrong c.in-Err-Wrong.wrong);
   between = c.serve.new.replies;
   serves = rw c.in-Err-Wrong.field-0-is at c.in-Err-Wrong.ensures.serves;
-  comes = rw (sym c.is_cut_off.ensures ∙ c.if-is_cut_off.true) (c.tell.ensures.answer, c.tell.ensures.all);
+  comes = rw (sym c.is_cut_off.ensures ∙ c.if-is_cut_off.true) c.tell.ensures;
 }
 
 pub returns-else-is_cut_off-clause-serves : goal.returns-else-is_cut_off-clause-serves
@@ -40,6 +40,5 @@ returns-else-is_cut_off-clause-serves g c = record {
   answer = Err (Wrong c.in-Err-Wrong.wrong);
   between = c.serve.new.replies;
   serves = rw c.in-Err-Wrong.field-0-is at c.in-Err-Wrong.ensures.serves;
-  comes = rw (sym c.is_cut_off.ensures ∙ c.if-is_cut_off.false)
-      (c.tell-in-Err-Wrong.ensures.answer, c.tell-in-Err-Wrong.ensures.all);
+  comes = rw (sym c.is_cut_off.ensures ∙ c.if-is_cut_off.false) c.tell-in-Err-Wrong.ensures;
 }
