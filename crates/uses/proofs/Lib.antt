@@ -2,4 +2,5 @@ pub mod FrameState
 pub mod Gaining
 pub mod Reporting
 pub mod Lines
+pub mod Filling
 pub mod Filtering

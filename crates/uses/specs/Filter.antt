@@ -8,6 +8,7 @@ use Rattle.buffer_redux.specs.BufReader.{ReadsToEnd}
 use Rattle.buffer_redux.specs.BufWriter.{WasFlushed, WritesAlong}
 use Rattle.buffer_redux.specs.LineWriter.{ThenSendsLines, line_rules}
 use Rattle.buffer_redux.specs.Policy.{std_read_rules}
+use Rattle.buffer_redux.specs.ReadUntil.{Lacks}
 use Rattle.buffer_redux.specs.StreamLog.{StreamLog}
 use Rattle.buffer_redux.specs.WriteAll.{WritesAll}
 use Rattle.uses.specs.Tally.{AreFirstLines, HandsLine, HandsLines, StopsBehind}
@@ -28,12 +29,14 @@ AllGoOn word (line ∷ lines) out = (first : List ℕ) × (rest : List ℕ) × L
 
 module _ {S P T Q : Type 0} (remaining : S → Option (List ℕ)) (tells : T → StreamLog) (trace : T → T → Type 0)
     (word : List ℕ) where
-  -- these lines were read, and just what goes on of them was accepted, and not flushed
+  -- these lines were read, and just what goes on of them was accepted, and not flushed: what had its end was sent, if what was
+  -- buffered had been
   pub record FiltersLines (lines : List (List ℕ)) (s t : Buffered S P) (w v : Buffered T Q) : Type 0 where
     pub hands : HandsLines remaining std_read_rules lines s t
     pub out : List ℕ
     pub goes_on : AllGoOn word lines out
     pub along : WritesAlong tells trace line_rules w out v
+    pub sent : Lacks 10 w.block.bytes → Lacks 10 v.block.bytes
     pub unflushed : v.log.writes.flushes ≡ w.log.writes.flushes
 
   -- how it ended behind so many lines: no more came, and a flush answered so; or the next wasn't read, and nothing was done to

@@ -40,6 +40,7 @@ pub fn sees_header<R: TellRead>(reader: &mut BufReader<R, HeaderFirst>) -> io::R
     ensures once { reader.new.log.reads.zero_reads ≤ reader.old.log.reads.zero_reads + 1 }
     ensures caused { ReadErrorCaused sixteen_rules reader.old result reader.new }
     ensures kept { ReadsInOrder reader.old [] reader.new }
+    ensures still { 16 ≤ length reader.old.block.bytes → reader.new.block ≡ reader.old.block }
 {
     Ok(reader.fill_buf()?.len() >= 16)
 }

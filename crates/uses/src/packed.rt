@@ -3,7 +3,7 @@ ghost use Rattle.std.specs.Prelude.{◌≡◌, true, OnOk, IfOk, IfErr, vec_item
 ghost use Rattle.buffer_redux.specs.Buffered.{InnerWent};
 ghost use Rattle.buffer_redux.specs.Faults.{IsMemory};
 ghost use Rattle.buffer_redux.specs.BufWriter.{FrontAlong, LeavesCapacity, WritesInOrder, WriterStopped};
-ghost use Rattle.uses.specs.Records.{with_length, with_lengths, IsShort, AreShort};
+ghost use Rattle.uses.specs.Records.{with_length, with_lengths, AreShort, IsShort, WritesRecord};
 
 use buffer_redux::BufWriter;
 use buffer_redux::policy::WriterPolicy;
@@ -39,6 +39,7 @@ pub fn pack_record<W: TellWrite, P: WriterPolicy>(
     ensures capacity { LeavesCapacity P.rules → writer.new.block.capacity ≡ writer.old.block.capacity }
     ensures front { FrontAlong W.log W.trace P.rules writer.old (with_length bytes.now) result writer.new }
     ensures went { InnerWent W.log W.trace writer.old writer.new }
+    ensures writes { WritesRecord W.log W.trace P.rules writer.old bytes.now result writer.new }
 {
     writer.write_all(&(bytes.len() as u16).to_be_bytes())?;
     writer.write_all(bytes)

@@ -55,6 +55,7 @@ pub fn sniff<R: TellRead>(reader: &mut BufReader<R, MinBuffered>) -> io::Result<
     ensures once { reader.new.log.reads.zero_reads ≤ reader.old.log.reads.zero_reads + 1 }
     ensures kept { ReadsInOrder reader.old [] reader.new }
     ensures policy { reader.new.policy ≡ reader.old.policy }
+    ensures still { reader.old.policy.0 ≤ length reader.old.block.bytes → reader.new.block ≡ reader.old.block }
     ensures known { IfSome (reader_remaining R.remaining min_read_rules reader.old)
         (λ xs. IfOk result (λ f. f ≡ format_of (take 16 xs))) }
     ensures left { Keeps (reader_remaining R.remaining min_read_rules reader.old)

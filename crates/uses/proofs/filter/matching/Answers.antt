@@ -4,6 +4,7 @@ use Rattle.std.proofs.lemmas.Result.{err_from_is_err_and}
 use Rattle.buffer_redux.specs.LineWriter.{line_rules}
 use Rattle.buffer_redux.specs.BufWriter.{WritesAlong}
 use Rattle.buffer_redux.specs.ReaderLaws.{WantsBytes-std}
+use Rattle.buffer_redux.specs.ReadUntil.{Lacks}
 use Rattle.buffer_redux.specs.UntilLaws.{ReadsUntil-end}
 use Rattle.buffer_redux.specs.WritesAlongLaws.{WritesAlong-joins, WritesAlong-none}
 use Rattle.uses.specs.Filter.{LineGoesThrough}
@@ -21,6 +22,7 @@ loop-init g c = record {
     out = [];
     goes_on = refl;
     along = WritesAlong-none _ _ _ g.met.W.TellWrite.trace_none _;
+    sent = λ before. before;
     unflushed = refl;
   };
 }
@@ -35,7 +37,8 @@ loop-preserved g c =
     let reads = rw c.clear.ensures.items at c.in_ok-read_until.ensures.until in
     let has = has_word word line c.find.result (rw c.deref.ensures.value at c.find.ensures) in
     let goes : (first : List ℕ) × LineGoesThrough word line first
-    × WritesAlong g.W.Tell.log g.W.TellWrite.trace line_rules m first v × (v.log.writes.flushes ≡ m.log.writes.flushes) =
+    × WritesAlong g.W.Tell.log g.W.TellWrite.trace line_rules m first v × (v.log.writes.flushes ≡ m.log.writes.flushes)
+    × (Lacks 10 m.block.bytes → Lacks 10 v.block.bytes) =
     elim c.if-is_some.branch [
       | then-is_some+in_ok-write_all w ↦
           let wrote = rw w.deref-then-is_some.ensures.value at w.in_ok-write_all.ensures in (
@@ -43,12 +46,14 @@ loop-preserved g c =
             inl (has.0 (sym c.is_some.ensures ∙ w.if-is_some.true), refl),
             rw w.writer-is wrote.all,
             rw w.writer-is (line_unflushed g.W.Tell.log g.W.TellWrite.trace line_rules (Ok tt) _ line m wrote.steps),
+            λ _. rw w.writer-is wrote.sent,
           )
       | else-is_some w ↦ (
         [],
         inr (has.1 (sym c.is_some.ensures ∙ w.if-is_some.false), refl),
         rw w.writer-is (WritesAlong-none _ _ _ g.met.W.TellWrite.trace_none _),
         ap (λ x. x.log.writes.flushes) w.writer-is,
+        λ before. rw w.writer-is before,
       )
     ] in
     record {
@@ -60,6 +65,7 @@ loop-preserved g c =
         out = i.went.out ++ goes.0;
         goes_on = AllGoOn-more word i.lines line i.went.out goes.0 i.went.goes_on goes.1;
         along = WritesAlong-joins _ _ _ g.met.W.TellWrite.trace_joins _ m v i.went.out goes.0 i.went.along goes.2;
+        sent = λ before. goes.4 (i.went.sent before);
         unflushed = goes.3 ∙ i.went.unflushed;
       };
     }

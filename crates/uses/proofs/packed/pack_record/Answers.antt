@@ -1,5 +1,5 @@
 -- Two writes in order are one of both, and why the second stopped holds since before the first.
-use Rattle.std.proofs.Common.{◌∙◌}
+use Rattle.std.proofs.Common.{refl, ◌∙◌}
 use Rattle.std.proofs.lemmas.Result.{IfErr-weaker, err_from_is_err_and, on_ok_weaker}
 use Rattle.buffer_redux.specs.WriterLaws.{InnerWent-joins, WritesInOrder-joins}
 use Rattle.buffer_redux.specs.WritesAlongLaws.{BegunAlong-more, FrontAlong-after, WriterStopped-after, WritesAll-front, WritesAll-took, WritesAlong-steady}
@@ -17,6 +17,12 @@ returns-in_err-write_all g c =
       capacity = wrote.front.keeps.same_capacity;
       front = rw c.to_be_bytes.ensures at (BegunAlong-more _ _ _ _ _ _ c.args.bytes.now front);
       went = wrote.front.keeps.went;
+      writes = record {
+        first = _;
+        between = c.write_all.new.self;
+        head = rw c.to_be_bytes.ensures at wrote;
+        rest = (refl, refl);
+      };
     })
 
 pub returns : goal.returns
@@ -38,4 +44,5 @@ returns g c =
       capacity = λ leaves. last.front.keeps.same_capacity leaves ∙ first.front.keeps.same_capacity leaves;
       front = FrontAlong-after _ _ _ joins s m t _ bytes r took (WritesAll-front _ _ _ m bytes r t last);
       went = InnerWent-joins _ _ joins s m t first.front.keeps.went last.front.keeps.went;
+      writes = record { first = _; between = m; head = first; rest = last };
     }

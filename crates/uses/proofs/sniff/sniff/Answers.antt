@@ -9,6 +9,7 @@ use Rattle.buffer_redux.specs.Policy.{ReadClaims}
 use Rattle.buffer_redux.specs.declared.policy.min_buffered.MinBuffered.{MinBuffered}
 use Rattle.uses.specs.Sniff.{format_of}
 use Rattle.buffer_redux.specs.EmptyReads.{fill_once}
+use Rattle.uses.proofs.Filling.{min_still}
 use Rattle.uses.proofs.sniff.sniff.Goals as goal
 
 abbrev of_claims : ReadClaims → MinBuffered
@@ -46,3 +47,9 @@ returns-clause-once g c = fill_once min_read_rules _ _ _ c.fill_buf.follows.hold
 
 pub returns-in_err-shown-clause-once : goal.returns-in_err-shown-clause-once
 returns-in_err-shown-clause-once g c = fill_once min_read_rules _ _ _ c.fill_buf.follows.holds-at-none.fills.filled
+
+pub returns-clause-still : goal.returns-clause-still
+returns-clause-still g c = λ many. min_still _ _ _ many c.fill_buf.follows.holds-at-none.fills.filled
+
+pub returns-in_err-shown-clause-still : goal.returns-in_err-shown-clause-still
+returns-in_err-shown-clause-still g c = λ many. min_still _ _ _ many c.fill_buf.follows.holds-at-none.fills.filled
