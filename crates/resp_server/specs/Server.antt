@@ -1,5 +1,6 @@
 -- What the program makes of its client.
 use Rattle.std.specs.Prelude.{◌≡◌, ℕ, List, [], Bool, true, false, codes, if◌then◌else◌, Option, Result, Ok, Err, MatchResult}
+use Rattle.std.specs.Result.{result_map_both}
 use Rattle.std.specs.declared.io.Error.{Error}
 use Rattle.buffer_redux.specs.Buffered.{Buffered}
 use Rattle.buffer_redux.specs.BufWriter.{WasFlushed}
@@ -31,11 +32,6 @@ abbrev pub tells_within : Ending → Bool
 tells_within Within = true
 tells_within ending = false
 
--- how a call ends that says this where another has this answer
-abbrev pub says_if : {A : Type 0} → Bool → Result A Error → Result Bool Error
-says_if said (Ok x) = Ok said
-says_if said (Err e) = Err e
-
 -- this line was written by one call, and then all was flushed by one; the first that failed is the last, and its error returned
 pub record TellsLine {T : Type 0} (tells : T → StreamLog) (trace : T → T → Type 0) (line : List ℕ) (said : Bool)
     (w : Buffered T StdPolicy) (result : Result Bool Error) (v : Buffered T StdPolicy) : Type 0 where
@@ -43,7 +39,8 @@ pub record TellsLine {T : Type 0} (tells : T → StreamLog) (trace : T → T →
   pub written : Buffered T StdPolicy
   pub writes : WritesAll tells trace std_write_rules w line writing written
   pub ends : MatchResult writing
-      (λ _. (flushing : Result (Unit {0}) Error) × WasFlushed tells trace written flushing v × (result ≡ says_if said flushing))
+      (λ _. (flushing : Result (Unit {0}) Error) × WasFlushed tells trace written flushing v
+      × (result ≡ result_map_both (λ _. said) (λ e. e) flushing))
       (λ e. (result ≡ Err e) × (v ≡ written))
 
 -- what becomes of an answer that left the replies so: its error is returned; or whether the stream ended within a request. What
